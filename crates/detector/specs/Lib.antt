@@ -1,0 +1,8 @@
+-- The root of the definitions: rules on plain numbers, the state level, the history level, and the claims that join the two.
+pub mod Values
+pub mod Request
+pub mod Notice
+pub mod State
+pub mod History
+pub mod Run
+pub mod Claims

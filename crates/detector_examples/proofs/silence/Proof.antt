@@ -1,0 +1,35 @@
+-- `silence` ends: each turn leaves fewer ticks.
+use Prim.Native.Nat.{_≤_, _-_}
+use native.Mathlib.Omega.{arith}
+use borrow.Author.Needs.{needs}
+use Rattle.detector_examples.proofs.silence.Statement.{statement}
+use Rattle.detector_examples.proofs.silence.Tie as tie
+
+abbrev Inv-loop : tie.InvT-loop
+Inv-loop ticks now₀ i₀ now i = i ≤ ticks
+
+abbrev μ-loop : tie.MeasureT-loop
+μ-loop ticks now₀ i₀ now i = ticks - i
+
+loop-holds : tie.Need-loop-holds Inv-loop μ-loop
+loop-holds c = omega arith
+
+tick-requires : tie.Need-tick-requires Inv-loop μ-loop
+tick-requires c κs = search needs
+
+add-i : tie.Need-add-i Inv-loop μ-loop
+add-i c = omega arith
+
+loop-less : tie.Need-loop-less Inv-loop μ-loop
+loop-less c = omega arith
+
+loop-again : tie.Need-loop-again Inv-loop μ-loop
+loop-again c = omega arith
+
+returns : tie.Need-returns Inv-loop μ-loop
+returns c = search needs
+
+pub silence-spec : {M : Type 1} → statement M
+silence-spec =
+    tie.close
+    (tie.spec Inv-loop μ-loop loop-holds tick-requires add-i loop-less loop-again returns)
