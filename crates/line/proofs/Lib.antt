@@ -1,0 +1,15 @@
+pub mod Held
+pub mod Counts
+pub mod Coupled
+pub mod Commands
+pub mod Bursts
+pub mod Ticks
+pub mod Rulings
+pub mod Run
+pub mod Potential
+pub mod Effects
+pub mod Bound
+pub mod AnswerKinds
+pub mod Sum
+pub mod Spacing
+pub mod Demand

@@ -1,0 +1,9 @@
+pub mod Counting
+pub mod Calls
+pub mod Refusals
+pub mod History
+pub mod Answers
+pub mod Lines
+pub mod Machine
+pub mod Demand
+pub mod Examples

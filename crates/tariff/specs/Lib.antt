@@ -1,0 +1,4 @@
+pub mod Slots
+pub mod Running
+pub mod Rules
+pub mod Steps

@@ -1,0 +1,56 @@
+// The tariffs of a line: the phases of a phased tariff, and where a running tariff stands.
+
+// A phase of a phased tariff, as a descriptor gives it.
+pub struct Phase {
+    pub pri: u32,
+    pub pcx: u32,
+    pub repx: u32,
+    pub pcn: u32,
+    pub repn: u32,
+    pub ci: u32,
+    pub pd: u32,
+}
+
+// What a tariff has at a tick.
+pub enum Slot {
+    None,
+    Empty,
+    Pulse,
+}
+
+// A tariff by its next slot: `wait` is the ticks to it.
+pub enum Tariff {
+    Idle,
+    // An em with C = 0.
+    Endless {
+        interval: u32,
+        wait: u64,
+    },
+    // An em with C > 0, before slot `next`.
+    Counted {
+        count: u32,
+        period: u32,
+        next: u32,
+        wait: u64,
+    },
+    // Before slot `pulse` of a charge interval: its phase, its map entry, and the seconds of the phase from its
+    // start on, 0 in an endless phase.
+    Phased {
+        phase: u32,
+        entry: u32,
+        left: u32,
+        pulse: u32,
+        wait: u64,
+    },
+    // No slot is left, and `wait` is the ticks to the completion.
+    Ending {
+        wait: u64,
+    },
+}
+
+// A tariff one tick on, and what that tick has.
+pub struct Stepped {
+    pub tariff: Tariff,
+    pub slot: Slot,
+    pub complete: bool,
+}
