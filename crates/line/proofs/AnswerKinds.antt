@@ -1,13 +1,11 @@
 -- The three kinds of answer that the paper gives: to a command, to an audit and to a tick.
 use mathlib.Core.Path.{_≡_, refl}
-use mathlib.Core.Bool.{Bool, true, false}
 use mathlib.Core.List.{List}
 use Prim.Native.Nat.{ℕ, _+_}
-use Rattle.line.specs.Calls.{Call, describe, hook, period, noPeriod, audit, tick, lentTick, Answer, accepted, refused, counters, ticked, Entry, burstPart}
-use Rattle.line.specs.Refusals.{Ruling}
+use Rattle.line.specs.Calls.{Call, describe, hook, period, noPeriod, audit, tick, lentTick, Answer, counters, ticked, Entry, burstPart}
+use Rattle.line.specs.declared.Ruling.{Ruling}
 use Rattle.line.specs.History.{ticks, ticksBy, owed, total, sinceReport}
 use Rattle.line.specs.Answers.{ruledAnswer, cancelledBy, rulingAfter, tickAfter, answerAfter}
-use Rattle.line.specs.declared.BurstPart.the-variants.{Keep as KeepBurst}
 
 module _ (D S : ℕ) (h : List Entry) where
   pub data Kind (c : Call) : Answer → Type 0 where

@@ -1,19 +1,17 @@
 -- The last pulse of a burst begins in time.
 use mathlib.Core.Path.{_≡_, refl, sym, ap, _∙_}
-use mathlib.Core.Bool.{Bool, true, false, cond}
+use mathlib.Core.Bool.{Bool}
 use mathlib.Core.List.{List, [], _∷_, _++_, append-assoc}
 use Prim.Native.Nat.{ℕ, zero, suc, _+_, _-_, _*_, _^_, min, max, _≤_, _<_}
 use native.Mathlib.Decide.{decLe}
 use native.Mathlib.Omega.{arith}
 use borrow.Author.Tests.{lt-ltb, le-ltb}
-use lib.Dec.{ltb}
-use Rattle.tariff.proofs.Ahead.{nextOf, Good}
+use Rattle.tariff.proofs.Ahead.{nextOf}
 use Rattle.line.specs.Calls.{Call, Answer, accepted, refused, counters, ticked, Entry, entry}
-use Rattle.line.specs.History.{tariffAsked, burstAsked, frontOf, isBurstFront, sum, ticks, ticksAfter, begun, burstIn, Started, started, never, lastFront, running, total, sinceReport, periodIn}
+use Rattle.line.specs.History.{tariffAsked, burstAsked, frontOf, isBurstFront, sum, ticks, ticksAfter, begun, burstIn, Started, started, never}
 use Rattle.line.specs.Lines.{onOf}
-use Rattle.line.specs.Machine.{Outcome, outcome, step}
+use Rattle.line.specs.Machine.{outcome, step}
 use Rattle.line.specs.Demand.{isFresh, isNone, beforeLast, freshBefore, cancelsBefore, deadline, LastBegins}
-use Rattle.line.specs.declared.BurstPart.{BurstPart}
 use Rattle.line.specs.declared.BurstPart.the-variants.{Start}
 use Rattle.line.specs.declared.Burst.{Burst}
 use Rattle.line.specs.declared.Burst.the-variants.{Running as Owing}
@@ -22,10 +20,10 @@ use Rattle.line.specs.declared.Front.the-variants.{None, Tariff as Tarif
 use Rattle.line.specs.declared.Line.{Line}
 use Rattle.line.specs.declared.Tick.{Tick}
 use Rattle.line.proofs.Counts.{ticks-most}
-use Rattle.line.proofs.Coupled.{Config, BurstAt, runs, At, line-at, Coupled}
+use Rattle.line.proofs.Coupled.{Config, BurstAt, runs, line-at, Coupled}
 use Rattle.line.proofs.Potential.{Within, late, positive, replaced, stopped, pulse-slot, empty-slot, waits}
-use Rattle.line.proofs.Effects.{Effect, cancels, stays, stops, begins, waiting, empty-due, pulse-due, burst-due, EffectOf, effect}
-use Rattle.line.proofs.Run.{Run, begin, more, coupled, cut}
+use Rattle.line.proofs.Effects.{Effect, cancels, stays, stops, begins, waiting, empty-due, pulse-due, burst-due, effect}
+use Rattle.line.proofs.Run.{Run, more, coupled, cut}
 
 -- after j ticks and r fresh tariffs, with done of n pulses begun: the next begins within `first` ticks, and a pulse after
 -- another within distance + 2S

@@ -1,14 +1,14 @@
 -- A burst one tick on keeps the coupling: its completion, whether a pulse of it may start, and its next front.
-use mathlib.Core.Path.{_≡_, refl, sym, _∙_}
+use mathlib.Core.Path.{_≡_, refl, sym}
 use mathlib.Core.Bool.{Bool, true, false, cond, _&&_, and-eq-true-iff}
 use Prim.Native.Nat.{ℕ, zero, suc, _+_, _-_, min, max, _≤_, _<_}
-use native.Mathlib.Decide.{decLe, ℕ-discrete}
+use native.Mathlib.Decide.{ℕ-discrete}
 use native.Mathlib.Omega.{arith}
 use borrow.Author.Tests.{ltb-true, le-leb, lt-leb, lt-ltb, le-ltb, eq-eqb, ne-eqb}
 use lib.Dec.{leb, ltb, eqb}
 use Rattle.tariff.specs.declared.Tariff.{Tariff}
 use Rattle.tariff.specs.Steps.{roomOf}
-use Rattle.line.specs.History.{Last, never, at, passed, pulseOn, Started, idle, started, begunBy, burstCompletes, burstReady, burstRuns}
+use Rattle.line.specs.History.{Last, never, at, passed, Started, started, begunBy, burstCompletes, burstReady, burstRuns}
 use Rattle.line.specs.Lines.{heldMore, agedOf, readyOf, begunOf, isRunning, owedBy}
 use Rattle.line.specs.History.{owedOf}
 use Rattle.line.specs.declared.Burst.{Burst}

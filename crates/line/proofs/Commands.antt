@@ -1,20 +1,17 @@
 -- A change of the tariff, of the burst or of the report period keeps the coupling.
 use mathlib.Core.Path.{_≡_, refl, sym, _∙_}
 use mathlib.Core.Bool.{Bool, true, false}
-use mathlib.Core.List.{List, [], _∷_, _++_}
-use Prim.Native.Nat.{ℕ, zero, suc, _+_, _-_, max, _≤_, _<_}
+use mathlib.Core.List.{List}
+use Prim.Native.Nat.{ℕ, _+_, _-_, max, _≤_}
 use native.Mathlib.Omega.{arith}
-use lib.ListN.{length, take, replicate, length-append, length-replicate}
+use lib.ListN.{length, take, replicate, length-append}
 use lib.Seq.{take-append-seam}
 use Rattle.tariff.specs.declared.Phase.{Phase}
-use Rattle.tariff.specs.declared.Tariff.{Tariff}
-use Rattle.tariff.specs.declared.Tariff.the-variants.{Idle as NoTariffRuns}
-use Rattle.tariff.specs.Running.{Running, nothing, emAt, phased, rated, runsEndless}
+use Rattle.tariff.specs.Running.{Running, runsEndless}
 use Rattle.tariff.specs.Rules.{soundEm, soundPhases}
 use Rattle.tariff.specs.Steps.{noPhase, emOf, phasedOf, rateOf}
-use Rattle.tariff.proofs.Ahead.{nextOf, Waits, Good}
-use Rattle.tariff.proofs.Agree.{Agree}
-use Rattle.line.specs.History.{Last, never, at, Started, idle, started, pulseOn, originAfter, changedBy, zeroedBy, burstBy}
+use Rattle.tariff.proofs.Ahead.{Waits}
+use Rattle.line.specs.History.{Last, at, Started, originAfter, changedBy, zeroedBy, burstBy}
 use Rattle.line.specs.Lines.{eightOf, tariffChanged, burstChanged, withPeriod}
 use Rattle.line.specs.declared.TariffPart.{TariffPart}
 use Rattle.line.specs.declared.TariffPart.the-variants.{None as NoTariff, Keep as KeepTariff, Rate, Em, Phased}
@@ -26,8 +23,8 @@ use Rattle.tariff.proofs.Phased.{phased-start-good}
 use Rattle.tariff.proofs.Start.{good-em, good-rate, next-em, next-phased, next-rate}
 use Rattle.tariff.proofs.Fresh.{agree-idle, agree-em, agree-phased}
 use Rattle.tariff.proofs.Rate.{agree-rate, rate-runs}
-use Rattle.line.proofs.Held.{heldSince, Before, origin-is}
-use Rattle.line.proofs.Coupled.{Config, Apart, BurstAt, none, runs, over, At, line-at}
+use Rattle.line.proofs.Held.{origin-is}
+use Rattle.line.proofs.Coupled.{Config, none, runs, At, line-at}
 
 -- what the table leaves of a tariff part and of a burst part that are taken, where r runs
 abbrev pub TariffTaken : ℕ → TariffPart → List Phase → Running → Type 0
@@ -43,7 +40,7 @@ BurstTaken running KeepBurst = Unit {0}
 BurstTaken running (Start n P) = (1 ≤ n) × (running ≡ false)
 
 -- the array of eight holds the phases at its front
-eight-front : (ps : List Phase) → take (length ps) (eightOf ps) ≡ ps
+pub eight-front : (ps : List Phase) → take (length ps) (eightOf ps) ≡ ps
 eight-front ps = take-append-seam ps (replicate (8 - length ps) noPhase)
 
 eight-room : (ps : List Phase) → length ps ≤ length (eightOf ps)

@@ -1,7 +1,7 @@
 -- The ticks of a history, part by part.
 use mathlib.Core.Path.{_≡_, refl}
 use mathlib.Core.List.{List, [], _∷_, _++_}
-use Prim.Native.Nat.{ℕ, zero, suc, _+_, _≤_}
+use Prim.Native.Nat.{ℕ, _+_, _≤_}
 use native.Mathlib.Omega.{arith}
 use mathlib.Core.Logic.{_⊎_, inl, inr, ⊎-elim}
 use Rattle.line.specs.Calls.{Call, describe, hook, period, noPeriod, audit, tick, lentTick, Entry, entry}

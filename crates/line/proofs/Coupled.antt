@@ -1,15 +1,15 @@
 -- The coupling of a line with its history: each field is the bounded form of what the history says.
-use mathlib.Core.Path.{_≡_, refl}
-use mathlib.Core.Bool.{Bool, true, false}
-use mathlib.Core.List.{List, [], _∷_}
-use Prim.Native.Nat.{ℕ, zero, suc, _+_, _-_, _*_, _%_, _^_, min, max, _≤_, _<_}
+use mathlib.Core.Path.{_≡_}
+use mathlib.Core.Bool.{true}
+use mathlib.Core.List.{List}
+use Prim.Native.Nat.{ℕ, _+_, _%_, _^_, max, _≤_, _<_}
 use Rattle.tariff.specs.declared.Phase.{Phase}
 use Rattle.tariff.specs.declared.Tariff.{Tariff}
 use Rattle.tariff.specs.Running.{Running}
-use Rattle.tariff.proofs.Ahead.{nextOf, Waits, Good}
+use Rattle.tariff.proofs.Ahead.{nextOf, Good}
 use Rattle.tariff.proofs.Agree.{Agree}
 use Rattle.line.specs.Calls.{Entry}
-use Rattle.line.specs.History.{Last, never, at, Started, idle, started, pulseOn, ticks, lastFront, burstIn, running, total, sinceReport, periodIn}
+use Rattle.line.specs.History.{Last, at, Started, idle, started, pulseOn, ticks, lastFront, burstIn, running, total, sinceReport, periodIn}
 use Rattle.line.specs.declared.Burst.{Burst}
 use Rattle.line.specs.declared.Burst.the-variants.{Idle, Running as Owing}
 use Rattle.line.specs.declared.Line.{Line}

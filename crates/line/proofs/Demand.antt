@@ -1,9 +1,9 @@
 -- The theorems about every list of calls on a fresh line: each answer is the paper's, and demand 3 holds.
 use mathlib.Core.Path.{_≡_, refl, sym, ap, _∙_}
-use mathlib.Core.Bool.{Bool, true, false, cond, _&&_, and-eq-true-iff}
+use mathlib.Core.Bool.{Bool, true, false, and-eq-true-iff}
 use mathlib.Core.List.{List, [], _∷_, _++_}
 use mathlib.Core.Logic.{_↔_}
-use Prim.Native.Nat.{ℕ, zero, suc, _+_, _-_, _%_, _^_, min, _≤_, _<_}
+use Prim.Native.Nat.{ℕ, _+_, _^_, min, _<_}
 use native.Mathlib.Omega.{arith}
 use borrow.Author.Tests.{leb-true}
 use lib.Dec.{leb}
@@ -11,11 +11,11 @@ use Rattle.tariff.specs.declared.Slot.{Slot}
 use Rattle.tariff.specs.declared.Slot.the-variants.{None as NoSlot, Empty, Pulse}
 use Rattle.tariff.specs.Rules.{within}
 use Rattle.tariff.specs.Running.{slotAt}
-use Rattle.line.specs.Counting.{oneMore}
-use Rattle.line.specs.Calls.{Call, describe, hook, period, noPeriod, audit, tick, lentTick, Answer, accepted, refused, counters, ticked, Entry, entry, burstPart}
-use Rattle.line.specs.Refusals.{Ruling, allowed, turnedDown, ruling, soundConfiguration}
-use Rattle.line.specs.History.{tariffAsked, frontOf, frontTold, isFront, ticks, lastFront, pulseOn, running, owed, total, sinceReport, countBy, zeroedBy}
-use Rattle.line.specs.Answers.{ruledAnswer, cancelledBy, frontAt, rulingAfter, burstMayStart, answerAfter}
+use Rattle.line.specs.Calls.{Call, hook, audit, Answer, accepted, counters, ticked, Entry, entry}
+use Rattle.line.specs.Refusals.{ruling, soundConfiguration}
+use Rattle.line.specs.declared.Ruling.the-variants.{Allowed, TurnedDown}
+use Rattle.line.specs.History.{tariffAsked, frontOf, frontTold, isFront, ticks, running, owed, total, sinceReport, countBy, zeroedBy}
+use Rattle.line.specs.Answers.{frontAt, burstMayStart, answerAfter}
 use Rattle.line.specs.Lines.{freshLine, makeOf, onOf}
 use Rattle.line.specs.Machine.{Outcome, outcome, step, Past, past, noted, afterCall, afterCalls, entries, lineAfter, history}
 use Rattle.line.specs.Demand.{frontsSinceEm, EndAnswers, Follows, Demand3}
@@ -26,9 +26,9 @@ use Rattle.line.specs.declared.Front.{Front}
 use Rattle.line.specs.declared.Front.the-variants.{None, Tariff as TariffFront, Burst as BurstFront}
 use Rattle.line.specs.declared.Line.{Line}
 use Rattle.line.specs.declared.Tick.{Tick}
-use Rattle.line.proofs.Coupled.{Config, Coupled}
+use Rattle.line.proofs.Coupled.{Config}
 use Rattle.line.proofs.AnswerKinds.{Kind, to-command, to-audit, to-tick, kind}
-use Rattle.line.proofs.Run.{Run, begin, more, coupled, answer-right, step-right, Right, clock-agrees, on-agrees, reads, run-history, cut}
+use Rattle.line.proofs.Run.{Run, coupled, answer-right, step-right, Right, clock-agrees, on-agrees, reads, run-history, cut}
 use Rattle.line.proofs.Sum.{sum-run}
 use Rattle.line.proofs.Bound.{bound}
 use Rattle.line.proofs.Spacing.{spacing-run}
@@ -60,8 +60,8 @@ tariff-front Pulse may = (λ e. refl, λ e. refl)
 
 -- only a tick is answered with a front
 slot-front : (D S : ℕ) (h : List Entry) (t : Tick) (c : Call) (a : Answer) → a ≡ ticked t → Kind D S h c a → (t .front ≡ TariffFront) ↔ (slotAt (running D S h) (ticks h + 1) ≡ Pulse)
-slot-front D S h t c a e (to-command allowed f) = absurd (let o : _≡_ {A = ℕ} 0 1 = cc in omega arith)
-slot-front D S h t c a e (to-command (turnedDown r) f) = absurd (let o : _≡_ {A = ℕ} 0 1 = cc in omega arith)
+slot-front D S h t c a e (to-command Allowed f) = absurd (let o : _≡_ {A = ℕ} 0 1 = cc in omega arith)
+slot-front D S h t c a e (to-command (TurnedDown r) f) = absurd (let o : _≡_ {A = ℕ} 0 1 = cc in omega arith)
 slot-front D S h t c a e to-audit = absurd (let o : _≡_ {A = ℕ} 0 1 = cc in omega arith)
 slot-front D S h t c a e (to-tick f) =
     let due : t .front ≡ frontAt (slotAt (running D S h) (ticks h + 1)) (burstMayStart D S h (ticks h + 1)) = ap (λ (x : Answer). frontTold x) (sym e) in

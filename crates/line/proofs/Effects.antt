@@ -1,40 +1,36 @@
 -- What a call does to a line whose burst owes a pulse, in the numbers of the bound.
 use mathlib.Core.Path.{_≡_, refl, sym, ap, _∙_}
-use mathlib.Core.Bool.{Bool, true, false, cond, _&&_, _||_}
-use mathlib.Core.List.{List, [], _∷_}
-use Prim.Native.Nat.{ℕ, zero, suc, _+_, _-_, _*_, min, max, _≤_, _<_}
+use mathlib.Core.Bool.{Bool, true, false, _&&_, _||_}
+use Prim.Native.Nat.{ℕ, suc, _+_, _-_, _*_, min, _≤_}
 use native.Mathlib.Omega.{arith}
-use borrow.Author.Tests.{leb-false, ltb-false, eqb-false, ne-eqb, lt-ltb}
-use lib.Dec.{leb, ltb, eqb}
-use Rattle.tariff.specs.declared.Phase.{Phase}
-use Rattle.tariff.specs.declared.Tariff.{Tariff}
+use borrow.Author.Tests.{leb-false, eqb-false, ne-eqb, lt-ltb}
+use lib.Dec.{leb, eqb}
 use Rattle.tariff.specs.declared.Slot.{Slot}
 use Rattle.tariff.specs.declared.Slot.the-variants.{None as NoSlot, Empty, Pulse}
 use Rattle.tariff.specs.declared.Stepped.{Stepped}
-use Rattle.tariff.specs.Steps.{stepOf, roomOf, isEndless}
+use Rattle.tariff.specs.Steps.{stepOf, isEndless}
 use Rattle.tariff.proofs.Ahead.{nextOf, Waits, Good}
 use Rattle.tariff.proofs.Agree.{Next, waits, empty, pulse}
-use Rattle.line.specs.Calls.{Lists, phasesOf, Call, describe, hook, period, noPeriod, audit, tick, lentTick, Answer, accepted, refused, counters, ticked, Entry, entry}
-use Rattle.line.specs.Refusals.{Ruling, allowed, turnedDown}
+use Rattle.line.specs.Calls.{Lists, phasesOf, Call, describe, hook, period, noPeriod, audit, tick, lentTick, ticked, Entry, entry}
+use Rattle.line.specs.declared.Ruling.{Ruling}
+use Rattle.line.specs.declared.Ruling.the-variants.{Allowed, TurnedDown}
 use Rattle.line.specs.History.{tariffAsked, burstAsked, frontOf, ticksBy, ticksAfter}
 use Rattle.line.specs.Answers.{cancelledBy, frontAt}
-use Rattle.line.specs.Lines.{describeOf, hookOf, periodOf, noPeriodOf, auditOf, tickOf, onOf, answeredBy, rulingOf, tariffChanged, burstChanged, withPeriod, eightOf, owedBy, isRunning, heldMore, agedOf, readyOf, begunOf, tickWithFront, tickBy}
-use Rattle.line.specs.Machine.{Outcome, outcome, answered, moved, step}
+use Rattle.line.specs.Lines.{describeOf, hookOf, periodOf, noPeriodOf, auditOf, tickOf, onOf, answeredBy, rulingOf, tariffChanged, burstChanged, withPeriod, owedBy, isRunning, heldMore, agedOf, readyOf, tickWithFront, tickBy}
+use Rattle.line.specs.Machine.{Outcome, outcome, answered, step}
 use Rattle.line.specs.Demand.{isFresh, isNone}
 use Rattle.line.specs.declared.TariffPart.{TariffPart}
 use Rattle.line.specs.declared.TariffPart.the-variants.{None as NoTariff, Keep as KeepTariff, Rate, Em, Phased}
 use Rattle.line.specs.declared.BurstPart.{BurstPart}
 use Rattle.line.specs.declared.BurstPart.the-variants.{None as NoBurst, Keep as KeepBurst, Start}
 use Rattle.line.specs.declared.Hook.the-variants.{Keep, Stop}
-use Rattle.line.specs.declared.Burst.{Burst}
-use Rattle.line.specs.declared.Burst.the-variants.{Idle, Running as Owing}
-use Rattle.line.specs.declared.Front.{Front}
+use Rattle.line.specs.declared.Burst.the-variants.{Running as Owing}
 use Rattle.line.specs.declared.Front.the-variants.{None, Tariff as TariffFront, Burst as BurstFront}
 use Rattle.line.specs.declared.Line.{Line}
 use Rattle.line.specs.declared.Aged.{Aged}
 use Rattle.line.specs.declared.Ticked.{Ticked}
 use Rattle.tariff.proofs.Tick.{good-step, next-step}
-use Rattle.tariff.proofs.Start.{next-em, next-phased, next-rate}
+use Rattle.tariff.proofs.Start.{next-rate}
 use Rattle.tariff.proofs.Room.{room-next}
 use Rattle.line.proofs.Coupled.{Config}
 use Rattle.line.proofs.Rulings.{starts-idle}
@@ -127,19 +123,19 @@ module _ (l : Line) (cfg : Config (l .pulse) (l .spacing)) (good : Good (l .spac
   changed : (t : TariffPart) (ls : Lists) (b : BurstPart) (u : Ruling) → rulingOf l (describe t ls b) ≡ u →
       EffectOf (describe t ls b) (answered (answeredBy u l (burstChanged b (tariffChanged t (phasesOf ls) l)) (cancelledBy b (owedBy (l .burst)))))
   unfolding tariffChanged burstChanged
-  changed t ls b (turnedDown r) e = stays (λ n. refl) refl refl refl owing
-  changed t ls NoBurst allowed e = cancels refl
-  changed t ls (Start n P) allowed e =
+  changed t ls b (TurnedDown r) e = stays (λ n. refl) refl refl refl owing
+  changed t ls NoBurst Allowed e = cancels refl
+  changed t ls (Start n P) Allowed e =
       absurd (let running : isRunning (l .burst) ≡ true = rw owing refl in let idle = starts-idle S (isEndless (l .tariff)) (isRunning (l .burst)) t ls n P e in let o : _≡_ {A = ℕ} 0 1 = cc in omega arith)
-  changed NoTariff ls KeepBurst allowed e = stops (λ n. refl) refl refl refl owing
-  changed KeepTariff ls KeepBurst allowed e = stays (λ n. refl) refl refl refl owing
-  changed (Rate P) ls KeepBurst allowed e = stays (λ n. refl) refl refl (next-rate P (l .tariff)) owing
-  changed (Em C P) ls KeepBurst allowed e = begins (λ n. refl) refl refl refl owing
-  changed Phased ls KeepBurst allowed e = begins (λ n. refl) refl refl refl owing
+  changed NoTariff ls KeepBurst Allowed e = stops (λ n. refl) refl refl refl owing
+  changed KeepTariff ls KeepBurst Allowed e = stays (λ n. refl) refl refl refl owing
+  changed (Rate P) ls KeepBurst Allowed e = stays (λ n. refl) refl refl (next-rate P (l .tariff)) owing
+  changed (Em C P) ls KeepBurst Allowed e = begins (λ n. refl) refl refl refl owing
+  changed Phased ls KeepBurst Allowed e = begins (λ n. refl) refl refl refl owing
 
   ruled : (n : ℕ) (u : Ruling) → EffectOf (period n) (answered (answeredBy u l (withPeriod l n) 0))
-  ruled n allowed = stays (λ j. refl) refl refl refl owing
-  ruled n (turnedDown r) = stays (λ j. refl) refl refl refl owing
+  ruled n Allowed = stays (λ j. refl) refl refl refl owing
+  ruled n (TurnedDown r) = stays (λ j. refl) refl refl refl owing
 
   pub effect : (c : Call) → EffectOf c (step l c)
   unfolding step describeOf hookOf periodOf noPeriodOf auditOf

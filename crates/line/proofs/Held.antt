@@ -1,11 +1,10 @@
 -- Ticks since the last front, held at a number: what a line keeps of a distance, against what its history says.
-use mathlib.Core.Path.{_≡_, refl}
-use mathlib.Core.Bool.{Bool, true, false}
-use Prim.Native.Nat.{ℕ, zero, suc, _+_, _-_, min, max, _≤_, _<_}
+use mathlib.Core.Path.{_≡_}
+use Prim.Native.Nat.{ℕ, suc, _+_, _-_, min, max, _≤_}
 use native.Mathlib.Decide.{decLe}
 use native.Mathlib.Omega.{arith}
-use borrow.Author.Tests.{leb-true, leb-false, le-leb, lt-leb, lt-ltb, le-ltb}
-use lib.Dec.{leb, ltb, eqb}
+use borrow.Author.Tests.{le-leb, lt-leb, le-ltb}
+use lib.Dec.{leb, ltb}
 use Rattle.line.specs.History.{Last, never, at, passed, pulseOn, originAfter}
 use Rattle.line.specs.Lines.{heldMore}
 

@@ -1,3 +1,4 @@
+-- The files of this folder, lowest first.
 pub mod Held
 pub mod Counts
 pub mod Coupled
@@ -5,6 +6,8 @@ pub mod Commands
 pub mod Bursts
 pub mod Ticks
 pub mod Rulings
+pub mod PhaseTables
+pub mod Described
 pub mod Run
 pub mod Potential
 pub mod Effects
@@ -13,3 +16,6 @@ pub mod AnswerKinds
 pub mod Sum
 pub mod Spacing
 pub mod Demand
+pub mod Bounds
+pub mod Refused
+pub mod Methods

@@ -2,7 +2,7 @@
 -- Of a line it takes: w, the ticks since the last front, held at S; g and k, the burst's distance and the ticks since its
 -- own last front, held at g; v, the ticks to the next slot, 0 where none is left.
 use mathlib.Core.Path.{_≡_, refl}
-use Prim.Native.Nat.{ℕ, zero, suc, _+_, _-_, _*_, min, max, _≤_, _<_}
+use Prim.Native.Nat.{ℕ, _+_, _-_, _*_, min, max, _≤_, _<_}
 use native.Mathlib.Decide.{decLe}
 use native.Mathlib.Omega.{arith}
 

@@ -1,17 +1,17 @@
 -- What an accepted descriptor tells: no cause of the table applied.
-use mathlib.Core.Path.{_≡_, refl, sym, _∙_}
-use mathlib.Core.Bool.{Bool, true, false, cond, not, _&&_, and-eq-true-iff}
+use mathlib.Core.Path.{_≡_, refl, _∙_}
+use mathlib.Core.Bool.{Bool, true, false, not, and-eq-true-iff}
 use mathlib.Core.List.{List, [], _∷_, _++_}
 use Prim.Native.Nat.{ℕ, zero, suc, _≤_}
-use native.Mathlib.Numerals.{add-one}
 use native.Mathlib.Omega.{arith}
 use borrow.Author.Tests.{leb-true, not-false}
 use lib.Dec.{leb}
 use lib.ListN.{length, length-append}
 use Rattle.tariff.specs.Rules.{within, soundEm, soundPhases}
 use Rattle.tariff.specs.Running.{Running, runsEndless}
-use Rattle.line.specs.Calls.{Lists, phaseOf, firstPhases, phasesOf}
-use Rattle.line.specs.Refusals.{Cause, cause, Ruling, allowed, turnedDown, ruling, soundLists, soundBurst, tariffCauses, burstCauses}
+use Rattle.line.specs.Calls.{Lists, firstPhases, phasesOf}
+use Rattle.line.specs.Refusals.{Cause, cause, ruling, soundLists, soundBurst, tariffCauses, burstCauses}
+use Rattle.line.specs.declared.Ruling.the-variants.{Allowed}
 use Rattle.line.specs.declared.TariffPart.{TariffPart}
 use Rattle.line.specs.declared.TariffPart.the-variants.{None as NoTariff, Keep as KeepTariff, Rate, Em, Phased}
 use Rattle.line.specs.declared.BurstPart.{BurstPart}
@@ -20,12 +20,12 @@ use Rattle.line.specs.declared.Refusal.{Refusal}
 use Rattle.line.proofs.Commands.{TariffTaken, BurstTaken}
 
 -- ---- causes
-none-first : (r : Refusal) (b : Bool) (cs : List Cause) → ruling (cause r b ∷ cs) ≡ allowed → (b ≡ false) × (ruling cs ≡ allowed)
+pub none-first : (r : Refusal) (b : Bool) (cs : List Cause) → ruling (cause r b ∷ cs) ≡ Allowed → (b ≡ false) × (ruling cs ≡ Allowed)
 unfolding ruling
 none-first r true cs h = absurd (let o : _≡_ {A = ℕ} 0 1 = cc in omega arith)
 none-first r false cs h = (refl, h)
 
-none-after : (cs ds : List Cause) → ruling (cs ++ ds) ≡ allowed → (ruling cs ≡ allowed) × (ruling ds ≡ allowed)
+pub none-after : (cs ds : List Cause) → ruling (cs ++ ds) ≡ Allowed → (ruling cs ≡ Allowed) × (ruling ds ≡ Allowed)
 unfolding ruling
 none-after [] ds h = (refl, h)
 none-after (cause r b ∷ cs) ds h =
@@ -34,19 +34,19 @@ none-after (cause r b ∷ cs) ds h =
     (rw (first .0) (rest .0), rest .1)
 
 -- ---- phases
-phases-length : (ls : Lists) (n : ℕ) → length (firstPhases ls n) ≡ n
+pub phases-length : (ls : Lists) (n : ℕ) → length (firstPhases ls n) ≡ n
 unfolding firstPhases
 phases-length ls zero = refl
 phases-length ls (suc n) = simp length-append (omega (arith, phases-length ls n))
 
-lists-length : (ls : Lists) → soundLists ls ≡ true → (1 ≤ length (ls .pri)) × (length (ls .pri) ≤ 8)
+pub lists-length : (ls : Lists) → soundLists ls ≡ true → (1 ≤ length (ls .pri)) × (length (ls .pri) ≤ 8)
 unfolding soundLists
 lists-length ls h =
     let w = and-eq-true-iff (leb 1 (length (ls .pri))) _ .0 (and-eq-true-iff (within 1 8 (length (ls .pri))) _ .0 h .0) in
     (leb-true 1 (length (ls .pri)) (w .0), leb-true (length (ls .pri)) 8 (w .1))
 
 module _ (S : ℕ) (e b : Bool) where
-  tariff-taken : (t : TariffPart) (ls : Lists) (r : Running) → runsEndless r ≡ e → ruling (tariffCauses S e b t ls) ≡ allowed → TariffTaken S t (phasesOf ls) r
+  tariff-taken : (t : TariffPart) (ls : Lists) (r : Running) → runsEndless r ≡ e → ruling (tariffCauses S e b t ls) ≡ Allowed → TariffTaken S t (phasesOf ls) r
   tariff-taken NoTariff ls r x h = tt
   tariff-taken KeepTariff ls r x h = tt
   tariff-taken (Rate P) ls r x h =
@@ -59,7 +59,7 @@ module _ (S : ℕ) (e b : Bool) where
       let size = phases-length ls (length (ls .pri)) in
       (omega arith, omega arith, not-false (soundPhases S (phasesOf ls)) (none-first _ (not (soundPhases S (phasesOf ls))) _ (first .1) .0))
 
-  burst-taken : (p : BurstPart) → ruling (burstCauses S e b p) ≡ allowed → BurstTaken b p
+  burst-taken : (p : BurstPart) → ruling (burstCauses S e b p) ≡ Allowed → BurstTaken b p
   burst-taken NoBurst h = tt
   burst-taken KeepBurst h = tt
   burst-taken (Start n P) h =
@@ -67,11 +67,11 @@ module _ (S : ℕ) (e b : Bool) where
       let sound = not-false (soundBurst n P) (first .0) in
       (leb-true 1 n (and-eq-true-iff (leb 1 n) _ .0 (and-eq-true-iff (within 1 65535 n) _ .0 sound .0) .0), none-first _ b _ (first .1) .0)
 
-  pub taken : (t : TariffPart) (ls : Lists) (p : BurstPart) (r : Running) → runsEndless r ≡ e → ruling (tariffCauses S e b t ls ++ burstCauses S e b p) ≡ allowed → TariffTaken S t (phasesOf ls) r × BurstTaken b p
+  pub taken : (t : TariffPart) (ls : Lists) (p : BurstPart) (r : Running) → runsEndless r ≡ e → ruling (tariffCauses S e b t ls ++ burstCauses S e b p) ≡ Allowed → TariffTaken S t (phasesOf ls) r × BurstTaken b p
   taken t ls p r x h =
       let both = none-after (tariffCauses S e b t ls) (burstCauses S e b p) h in
       (tariff-taken t ls r x (both .0), burst-taken p (both .1))
 
   -- a descriptor that starts a burst is allowed only where none runs
-  pub starts-idle : (t : TariffPart) (ls : Lists) (n P : ℕ) → ruling (tariffCauses S e b t ls ++ burstCauses S e b (Start n P)) ≡ allowed → b ≡ false
+  pub starts-idle : (t : TariffPart) (ls : Lists) (n P : ℕ) → ruling (tariffCauses S e b t ls ++ burstCauses S e b (Start n P)) ≡ Allowed → b ≡ false
   starts-idle t ls n P h = burst-taken (Start n P) (none-after (tariffCauses S e b t ls) (burstCauses S e b (Start n P)) h .1) .1

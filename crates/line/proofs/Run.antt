@@ -1,23 +1,23 @@
 -- A history with the line after it, call by call, and the coupling at each.
-use mathlib.Core.Path.{_≡_, refl, sym, ap, _∙_}
-use mathlib.Core.Bool.{Bool, true, false}
+use mathlib.Core.Path.{_≡_, refl, ap}
+use mathlib.Core.Bool.{Bool, true}
 use mathlib.Core.List.{List, [], _∷_, _++_}
-use Prim.Native.Nat.{ℕ, zero, suc, _+_, _-_, _%_, _^_, _<_, _≤_}
+use Prim.Native.Nat.{ℕ, _+_, _%_, _^_, _<_}
 use native.Mathlib.Omega.{arith}
-use lib.Dec.{eqb}
 use Rattle.tariff.specs.declared.Tariff.the-variants.{Idle}
 use Rattle.tariff.specs.Running.{nothing, runsEndless}
-use Rattle.tariff.specs.Steps.{isEndless}
-use Rattle.line.specs.Calls.{Lists, phasesOf, Call, describe, hook, period, noPeriod, audit, tick, lentTick, Answer, accepted, refused, counters, ticked, Entry, entry}
-use Rattle.line.specs.Refusals.{Ruling, allowed, turnedDown, ruling, causes, numberOf}
+use Rattle.line.specs.Calls.{Lists, phasesOf, Call, describe, hook, period, noPeriod, audit, tick, lentTick, Answer, accepted, counters, ticked, Entry, entry}
+use Rattle.line.specs.Refusals.{ruling}
+use Rattle.line.specs.declared.Ruling.{Ruling}
+use Rattle.line.specs.declared.Ruling.the-variants.{Allowed, TurnedDown}
 use Rattle.line.specs.History.{ticks, lastFront, burstIn, owed, burstRuns, running, total, sinceReport, periodIn, pulseOn, never, idle}
-use Rattle.line.specs.Answers.{cancelledBy, ruledAnswer, rulingAfter, answerAfter}
-use Rattle.line.specs.Lines.{freshLine, makeOf, describeOf, hookOf, periodOf, noPeriodOf, auditOf, tickOf, onOf, answeredBy, rulingOf, tariffChanged, burstChanged, owedBy, isRunning, withPeriod, noPhases, zeroCounters}
+use Rattle.line.specs.Answers.{cancelledBy, rulingAfter, answerAfter}
+use Rattle.line.specs.Lines.{freshLine, describeOf, hookOf, periodOf, noPeriodOf, auditOf, onOf, answeredBy, rulingOf, tariffChanged, burstChanged, owedBy, withPeriod, noPhases, zeroCounters}
 use Rattle.line.specs.Machine.{Outcome, outcome, answered, step, Past, past, noted, afterCalls, entries, lineAfter}
 use Rattle.line.specs.declared.TariffPart.{TariffPart}
 use Rattle.line.specs.declared.TariffPart.the-variants.{None as NoTariff}
 use Rattle.line.specs.declared.BurstPart.{BurstPart}
-use Rattle.line.specs.declared.BurstPart.the-variants.{None as NoBurst, Keep as KeepBurst, Start}
+use Rattle.line.specs.declared.BurstPart.the-variants.{None as NoBurst}
 use Rattle.line.specs.declared.Hook.the-variants.{Keep, Stop}
 use Rattle.line.specs.declared.Burst.the-variants.{Idle as NoBurstRuns}
 use Rattle.line.specs.declared.Line.{Line}
@@ -58,15 +58,15 @@ module _ (D S clock : ℕ) (cfg : Config D S) where
     describe-right : (t : TariffPart) (ls : Lists) (b : BurstPart) (u : Ruling) → rulingAfter D S h (describe t ls b) ≡ u →
         Right h (describe t ls b) (answered (answeredBy u l (burstChanged b (tariffChanged t (phasesOf ls) l)) (cancelledBy b (owedBy (l .burst)))))
     unfolding answerAfter ticks lastFront burstIn running total sinceReport periodIn
-    describe-right t ls b allowed e =
+    describe-right t ls b Allowed e =
         let both = taken S (runsEndless (running D S h)) (burstRuns D (burstIn h) (ticks h)) t ls b (running D S h) refl e in
         (rw (e, owed-agrees h x), burst-at D S clock cfg (burstRuns D (burstIn h) (ticks h)) b (both .1) (tariff-at D S clock cfg t (phasesOf ls) (both .0) x))
-    describe-right t ls b (turnedDown r) e = (rw e, x)
+    describe-right t ls b (TurnedDown r) e = (rw e, x)
 
     period-right : (n : ℕ) (u : Ruling) → rulingAfter D S h (period n) ≡ u → Right h (period n) (answered (answeredBy u l (withPeriod l n) 0))
     unfolding answerAfter ticks lastFront burstIn running total sinceReport periodIn
-    period-right n allowed e = (rw e, period-at D S clock cfg n x)
-    period-right n (turnedDown r) e = (rw e, x)
+    period-right n Allowed e = (rw e, period-at D S clock cfg n x)
+    period-right n (TurnedDown r) e = (rw e, x)
 
     pub step-right : (c : Call) → Right h c (step l c)
     unfolding step describeOf hookOf periodOf noPeriodOf auditOf answerAfter ruling ticks lastFront burstIn running total sinceReport periodIn tariffChanged burstChanged

@@ -1,31 +1,30 @@
 -- Any two fronts are at least S ticks apart.
-use mathlib.Core.Path.{_≡_, refl, sym, ap, _∙_}
-use mathlib.Core.Bool.{Bool, true, false, _&&_, and-eq-true-iff}
+use mathlib.Core.Path.{_≡_, refl, sym, _∙_}
+use mathlib.Core.Bool.{Bool, true, false, and-eq-true-iff}
 use mathlib.Core.List.{List, [], _∷_, _++_}
-use Prim.Native.Nat.{ℕ, zero, suc, _+_, _-_, _^_, min, max, _≤_, _<_}
+use Prim.Native.Nat.{ℕ, _+_, _^_, _≤_, _<_}
 use native.Mathlib.Omega.{arith}
 use borrow.Author.Tests.{leb-true, le-leb}
-use lib.Dec.{leb}
 use Rattle.tariff.specs.declared.Slot.{Slot}
 use Rattle.tariff.specs.declared.Slot.the-variants.{None as NoSlot, Empty, Pulse}
-use Rattle.tariff.specs.Running.{slotAt, quietFor}
+use Rattle.tariff.specs.Running.{slotAt}
 use Rattle.tariff.specs.Steps.{stepOf}
-use Rattle.tariff.proofs.Ahead.{nextOf, Waits, Good}
-use Rattle.tariff.proofs.Agree.{Agree, Next, waits, empty, pulse}
-use Rattle.line.specs.Calls.{Call, describe, hook, period, noPeriod, audit, tick, lentTick, Answer, accepted, refused, counters, ticked, Entry, entry, burstPart}
-use Rattle.line.specs.Refusals.{Ruling, allowed, turnedDown, ruling}
-use Rattle.line.specs.History.{frontOf, frontTold, isFront, ticks, ticksBy, ticksAfter, Last, never, at, passed, lastFront, lastBy, burstIn, burstReady, running, owed}
-use Rattle.line.specs.Answers.{ruledAnswer, cancelledBy, frontAt, rulingAfter, burstMayStart, answerAfter}
+use Rattle.tariff.proofs.Ahead.{Waits}
+use Rattle.tariff.proofs.Agree.{Next, waits, empty, pulse}
+use Rattle.line.specs.Calls.{Call, Answer, Entry}
+use Rattle.line.specs.declared.Ruling.the-variants.{Allowed, TurnedDown}
+use Rattle.line.specs.History.{frontOf, frontTold, isFront, ticks, ticksBy, Last, at, passed, lastFront, lastBy, burstIn, burstReady, running}
+use Rattle.line.specs.Answers.{frontAt, burstMayStart}
 use Rattle.line.specs.declared.Front.{Front}
 use Rattle.line.specs.declared.Front.the-variants.{None, Tariff as TariffFront, Burst as BurstFront}
 use Rattle.line.specs.declared.Line.{Line}
 use Rattle.tariff.proofs.Tick.{next-step}
 use Rattle.tariff.proofs.Coupling.{agree-now}
-use Rattle.line.proofs.Held.{heldSince, Before, before-more, held-more, held-passed}
+use Rattle.line.proofs.Held.{heldSince, before-more, held-more, held-passed}
 use Rattle.line.proofs.Counts.{ticks-least, ticks-most, ticks-append}
-use Rattle.line.proofs.Coupled.{Config, Apart, At, line-at, Coupled}
+use Rattle.line.proofs.Coupled.{Config, line-at, Coupled}
 use Rattle.line.proofs.AnswerKinds.{Kind, to-command, to-audit, to-tick, kind}
-use Rattle.line.proofs.Run.{Run, begin, more, coupled, answer-right, cut}
+use Rattle.line.proofs.Run.{Run, more, coupled, answer-right}
 
 -- a slot due now was 1 tick away
 pulse-next : {S v v′ : ℕ} (s : Slot) → s ≡ Pulse → Next S v v′ s → v ≡ 1
@@ -54,8 +53,8 @@ module _ (D S clock : ℕ) (cfg : Config D S) where
   module _ (small : clock < 2 ^ 32) where
     front-passed : (h : List Entry) {l : Line} → Coupled D S clock h l → (c : Call) (a : Answer) → Kind D S h c a → isFront (frontTold a) ≡ 1 →
         (passed S (lastFront h) (ticks h + 1) ≡ true) × ((n : ℕ) → ticksBy c n ≡ n + 1)
-    front-passed h x c a (to-command allowed e) f = absurd (omega arith)
-    front-passed h x c a (to-command (turnedDown r) e) f = absurd (omega arith)
+    front-passed h x c a (to-command Allowed e) f = absurd (omega arith)
+    front-passed h x c a (to-command (TurnedDown r) e) f = absurd (omega arith)
     front-passed h x c a to-audit f = absurd (omega arith)
     front-passed h x c a (to-tick t) f = (due-passed h x _ _ refl refl f, t)
 

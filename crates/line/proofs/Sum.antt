@@ -1,25 +1,23 @@
 -- Every burst pulse that was accepted was begun, was reported cancelled, or is owed.
-use mathlib.Core.Path.{_≡_, refl, sym, ap, _∙_}
-use mathlib.Core.Bool.{Bool, true, false, _&&_, _||_, and-eq-true-iff}
-use mathlib.Core.List.{List, [], _∷_, _++_}
-use Prim.Native.Nat.{ℕ, zero, suc, _+_, _-_, _^_, max, _≤_, _<_}
+use mathlib.Core.Path.{_≡_, refl}
+use mathlib.Core.Bool.{Bool, true, false, and-eq-true-iff}
+use mathlib.Core.List.{List}
+use Prim.Native.Nat.{ℕ, _+_, _-_, _^_, max, _<_}
 use native.Mathlib.Omega.{arith}
 use borrow.Author.Tests.{ltb-true, ltb-false}
 use lib.Dec.{ltb}
 use Rattle.tariff.specs.declared.Slot.{Slot}
 use Rattle.tariff.specs.declared.Slot.the-variants.{None as NoSlot, Empty, Pulse}
 use Rattle.tariff.specs.Running.{slotAt, runsEndless}
-use Rattle.line.specs.Calls.{Lists, Call, describe, hook, period, noPeriod, audit, tick, lentTick, Answer, accepted, refused, counters, ticked, Entry, entry, burstPart}
-use Rattle.line.specs.Refusals.{Ruling, allowed, turnedDown, ruling}
-use Rattle.line.specs.History.{burstAsked, frontOf, frontTold, cancelledOf, startedBy, isBurstFront, sum, ticks, acceptedPulses, begun, cancelled, Last, never, at, passed, pulseOn, Started, idle, started, begunBy, burstBy, burstIn, owedOf, owed, burstRuns, burstReady, running}
-use Rattle.line.specs.Answers.{cancelledBy, ruledAnswer, frontAt, rulingAfter, burstMayStart, tickAfter, commandAnswer, answerAfter}
+use Rattle.line.specs.Calls.{Call, describe, hook, period, noPeriod, audit, tick, lentTick, Answer, Entry, entry, burstPart}
+use Rattle.line.specs.declared.Ruling.the-variants.{Allowed, TurnedDown}
+use Rattle.line.specs.History.{burstAsked, frontOf, cancelledOf, startedBy, isBurstFront, sum, ticks, acceptedPulses, begun, cancelled, at, passed, Started, idle, started, begunBy, burstBy, burstIn, owedOf, owed, burstRuns, burstReady, running}
+use Rattle.line.specs.Answers.{cancelledBy, frontAt, rulingAfter, burstMayStart}
 use Rattle.line.specs.Lines.{onOf}
-use Rattle.line.specs.declared.TariffPart.{TariffPart}
 use Rattle.line.specs.declared.BurstPart.{BurstPart}
 use Rattle.line.specs.declared.BurstPart.the-variants.{None as NoBurst, Keep as KeepBurst, Start}
 use Rattle.line.specs.declared.Hook.the-variants.{Keep, Stop}
-use Rattle.line.specs.declared.Front.{Front}
-use Rattle.line.specs.declared.Front.the-variants.{None, Tariff as TariffFront, Burst as BurstFront}
+use Rattle.line.specs.declared.Front.the-variants.{None, Burst as BurstFront}
 use Rattle.line.specs.declared.Line.{Line}
 use Rattle.line.proofs.Coupled.{Config}
 use Rattle.line.proofs.Rulings.{starts-idle}
@@ -48,7 +46,7 @@ Balanced e now b = startedBy (burstAsked e) + owedOf b ≡ isBurstFront (frontOf
 
 module _ (D S : ℕ) (h : List Entry) (k : ℕ) (on : Bool) where
   -- a start is allowed only where nothing is owed
-  start-owes : (c : Call) (n P : ℕ) → rulingAfter D S h c ≡ allowed → burstPart c ≡ Start n P → owed h ≡ 0
+  start-owes : (c : Call) (n P : ℕ) → rulingAfter D S h c ≡ Allowed → burstPart c ≡ Start n P → owed h ≡ 0
   start-owes (describe t ls b) n P e f =
       idle-owes D (burstIn h) (ticks h) (starts-idle S (runsEndless (running D S h)) (burstRuns D (burstIn h) (ticks h)) t ls n P (rw f at e))
   start-owes (hook Keep) n P e f = absurd (let o : _≡_ {A = ℕ} 0 1 = cc in omega arith)
@@ -71,8 +69,8 @@ module _ (D S : ℕ) (h : List Entry) (k : ℕ) (on : Bool) where
   front-owes Pulse may b r = omega arith
 
   balanced : (c : Call) (a : Answer) → Kind D S h c a → Balanced (entry c a k on) (ticks h + 1) (burstIn h)
-  balanced c a (to-command allowed e) = part-owes (burstPart c) (λ n P f. start-owes c n P e f)
-  balanced c a (to-command (turnedDown r) e) = omega arith
+  balanced c a (to-command Allowed e) = part-owes (burstPart c) (λ n P f. start-owes c n P e f)
+  balanced c a (to-command (TurnedDown r) e) = omega arith
   balanced c a to-audit = omega arith
   balanced c a (to-tick t) =
       omega (arith, front-owes (slotAt (running D S h) (ticks h + 1)) (burstMayStart D S h (ticks h + 1)) (burstIn h) (λ e. and-eq-true-iff (burstReady S (burstIn h) (ticks h + 1)) _ .0 e .0))

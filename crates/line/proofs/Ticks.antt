@@ -2,7 +2,7 @@
 use mathlib.Core.Path.{_≡_, refl, sym, ap, _∙_}
 use mathlib.Core.Bool.{Bool, true, false, cond, _&&_, _||_, and-eq-true-iff}
 use mathlib.Core.List.{List}
-use Prim.Native.Nat.{ℕ, zero, suc, _+_, _-_, _*_, _%_, _^_, min, max, _≤_, _<_}
+use Prim.Native.Nat.{ℕ, _+_, _-_, _%_, _^_, _≤_}
 use native.Mathlib.Omega.{arith}
 use borrow.Author.Tests.{leb-true, eqb-true}
 use lib.Dec.{leb, eqb}
@@ -16,17 +16,14 @@ use Rattle.tariff.specs.Steps.{stepOf, roomOf}
 use Rattle.tariff.proofs.Ahead.{nextOf, Waits, Good}
 use Rattle.tariff.proofs.Agree.{Agree, Next, waits, empty, pulse}
 use Rattle.line.specs.Counting.{oneMore, reportDue}
-use Rattle.line.specs.History.{Last, never, at, passed, Started, idle, started, lastBy, begunBy, burstCompletes, burstReady, countBy}
+use Rattle.line.specs.History.{Last, at, passed, Started, lastBy, begunBy, burstCompletes, burstReady, countBy}
 use Rattle.line.specs.Answers.{frontAt, reportAt}
 use Rattle.line.specs.Lines.{heldMore, agedOf, readyOf, begunOf, countOf, tickWithFront, tickOf}
 use Rattle.line.specs.declared.Burst.{Burst}
 use Rattle.line.specs.declared.Front.{Front}
-use Rattle.line.specs.declared.Front.the-variants.{None, Tariff as TariffFront, Burst as BurstFront}
-use Rattle.line.specs.declared.Counters.{Counters}
 use Rattle.line.specs.declared.Count.{Count}
 use Rattle.line.specs.declared.Line.{Line}
 use Rattle.line.specs.declared.Tick.{Tick}
-use Rattle.line.specs.declared.Ticked.{Ticked}
 use Rattle.line.specs.declared.Aged.{Aged}
 use Rattle.tariff.proofs.Tick.{good-step, next-step}
 use Rattle.tariff.proofs.Coupling.{agree-now, agree-complete, agree-tick, runs-on}

@@ -1,13 +1,15 @@
 -- What the paper has each call answer, after a history.
-use mathlib.Core.Bool.{Bool, true, false, cond, _&&_}
+use mathlib.Core.Bool.{Bool, false, cond, _&&_}
 use mathlib.Core.List.{List}
 use Prim.Native.Nat.{ℕ, _+_, _-_}
-use Rattle.tariff.specs.Running.{Running, slotAt, quietFor, completesAt, runsEndless}
+use Rattle.tariff.specs.Running.{slotAt, quietFor, completesAt, runsEndless}
 use Rattle.tariff.specs.declared.Slot.{Slot}
 use Rattle.tariff.specs.declared.Slot.the-variants.{None as NoSlot, Empty, Pulse}
 use Rattle.line.specs.Counting.{oneMore, reportDue}
 use Rattle.line.specs.Calls.{Call, describe, hook, period, noPeriod, audit, tick, lentTick, Answer, accepted, refused, counters, ticked, Entry, burstPart}
-use Rattle.line.specs.Refusals.{Ruling, allowed, turnedDown, ruling, causes, numberOf}
+use Rattle.line.specs.Refusals.{ruling, causes, numberOf}
+use Rattle.line.specs.declared.Ruling.{Ruling}
+use Rattle.line.specs.declared.Ruling.the-variants.{Allowed, TurnedDown}
 use Rattle.line.specs.History.{ticks, lastFront, passed, burstIn, owed, burstCompletes, burstRuns, burstReady, running, total, sinceReport, periodIn}
 use Rattle.line.specs.declared.BurstPart.{BurstPart}
 use Rattle.line.specs.declared.BurstPart.the-variants.{None as NoBurst, Keep as KeepBurst, Start}
@@ -22,8 +24,8 @@ cancelledBy KeepBurst owed = 0
 cancelledBy (Start n P) owed = 0
 
 abbrev pub ruledAnswer : Ruling → ℕ → Answer
-ruledAnswer allowed k = accepted k
-ruledAnswer (turnedDown r) k = refused (numberOf r)
+ruledAnswer Allowed k = accepted k
+ruledAnswer (TurnedDown r) k = refused (numberOf r)
 
 -- a slot due now starts its pulse, or nothing if it is empty; where no slot is due, a burst pulse may start
 abbrev pub frontAt : Slot → Bool → Front

@@ -5,9 +5,9 @@ use Prim.Native.Nat.{ℕ, zero, suc}
 use lib.ListN.{length, getD}
 use Rattle.tariff.specs.declared.Phase.{Phase}
 use Rattle.line.specs.declared.TariffPart.{TariffPart}
-use Rattle.line.specs.declared.TariffPart.the-variants.{None as NoTariff, Keep as KeepTariff, Rate, Em, Phased}
+use Rattle.line.specs.declared.TariffPart.the-variants.{None as NoTariff, Keep as KeepTariff}
 use Rattle.line.specs.declared.BurstPart.{BurstPart}
-use Rattle.line.specs.declared.BurstPart.the-variants.{None as NoBurst, Keep as KeepBurst, Start}
+use Rattle.line.specs.declared.BurstPart.the-variants.{None as NoBurst, Keep as KeepBurst}
 use Rattle.line.specs.declared.Hook.{Hook}
 use Rattle.line.specs.declared.Hook.the-variants.{Keep, Stop}
 use Rattle.line.specs.declared.Tick.{Tick}

@@ -3,11 +3,11 @@ use mathlib.Core.Path.{_≡_}
 use mathlib.Core.Bool.{Bool, cond}
 use mathlib.Core.Logic.{_↔_}
 use mathlib.Core.List.{List, [], _∷_, _++_}
-use Prim.Native.Nat.{ℕ, zero, suc, _+_, _-_, _*_, _%_, _^_, min, max, _≤_}
+use Prim.Native.Nat.{ℕ, _+_, _-_, _*_, _%_, _^_, min, max, _≤_}
 use lib.Dec.{ltb}
 use Rattle.tariff.specs.Running.{slotAt}
 use Rattle.tariff.specs.declared.Slot.the-variants.{Pulse}
-use Rattle.line.specs.Calls.{Call, describe, hook, period, noPeriod, audit, tick, lentTick, Answer, accepted, counters, ticked, Entry, entry}
+use Rattle.line.specs.Calls.{Call, hook, audit, Answer, accepted, counters, ticked, Entry, entry}
 use Rattle.line.specs.History.{tariffAsked, burstAsked, frontOf, isFront, ticks, acceptedPulses, begun, cancelled, owed, lastFront, pulseOn, running, zeroedBy, sinceReport}
 use Rattle.line.specs.Answers.{answerAfter}
 use Rattle.line.specs.Machine.{history}

@@ -11,7 +11,7 @@ use Rattle.tariff.specs.declared.Slot.{Slot}
 use Rattle.tariff.specs.Running.{isNone}
 use Rattle.tariff.specs.Slots.{anyBelow, countedSlot}
 use Rattle.tariff.specs.Rules.{soundEm, distanceOf}
-use Rattle.line.specs.Calls.{Lists, Call, describe, Answer, accepted, refused}
+use Rattle.line.specs.Calls.{Lists, describe, Answer, accepted, refused}
 use Rattle.line.specs.Refusals.{ruling}
 use Rattle.line.specs.Answers.{answerAfter}
 use Rattle.line.specs.declared.TariffPart.the-variants.{Em}

@@ -1,10 +1,10 @@
 -- What a history says of the line: read from its calls and answers alone. A history is held newest first.
 use mathlib.Core.Bool.{Bool, true, false, cond, _&&_, _||_}
 use mathlib.Core.List.{List, [], _∷_}
-use Prim.Native.Nat.{ℕ, zero, suc, _+_, _-_, max}
+use Prim.Native.Nat.{ℕ, _+_, _-_, max}
 use lib.Dec.{leb, ltb, eqb}
 use Rattle.tariff.specs.declared.Phase.{Phase}
-use Rattle.tariff.specs.Running.{Running, nothing, endless, counted, phased, emAt, rated, completesAt}
+use Rattle.tariff.specs.Running.{Running, nothing, phased, emAt, rated, completesAt}
 use Rattle.line.specs.Counting.{oneMore}
 use Rattle.line.specs.Calls.{Call, describe, hook, period, noPeriod, audit, tick, lentTick, Answer, accepted, refused, counters, ticked, Entry, entry, tariffPart, burstPart, phasesIn}
 use Rattle.line.specs.declared.TariffPart.{TariffPart}

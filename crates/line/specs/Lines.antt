@@ -10,8 +10,10 @@ use Rattle.tariff.specs.declared.Tariff.the-variants.{Idle}
 use Rattle.tariff.specs.declared.Stepped.{Stepped}
 use Rattle.tariff.specs.Steps.{noPhase, stepOf, roomOf, emOf, phasedOf, rateOf, isEndless}
 use Rattle.line.specs.Counting.{oneMore, reportDue}
-use Rattle.line.specs.Calls.{Lists, phasesOf, Call, describe, hook, period}
-use Rattle.line.specs.Refusals.{Ruling, allowed, turnedDown, ruling, causes, soundConfiguration}
+use Rattle.line.specs.Calls.{Lists, phasesOf, Call, describe, period}
+use Rattle.line.specs.Refusals.{ruling, causes, soundConfiguration}
+use Rattle.line.specs.declared.Ruling.{Ruling}
+use Rattle.line.specs.declared.Ruling.the-variants.{Allowed, TurnedDown}
 use Rattle.line.specs.Answers.{cancelledBy, frontAt}
 use Rattle.line.specs.declared.TariffPart.{TariffPart}
 use Rattle.line.specs.declared.TariffPart.the-variants.{None as NoTariff, Keep as KeepTariff, Rate, Em, Phased}
@@ -24,7 +26,6 @@ use Rattle.line.specs.declared.Burst.the-variants.{Idle as NoBurstRuns, 
 use Rattle.line.specs.declared.Counters.{Counters}
 use Rattle.line.specs.declared.Line.{Line}
 use Rattle.line.specs.declared.Refusal.the-variants.{Configuration}
-use Rattle.line.specs.declared.Verdict.{Verdict}
 use Rattle.line.specs.declared.Verdict.the-variants.{Accepted, Refused}
 use Rattle.line.specs.declared.Answered.{Answered}
 use Rattle.line.specs.declared.Audited.{Audited}
@@ -107,8 +108,8 @@ rulingOf l c = ruling (causes (l .spacing) (isEndless (l .tariff)) (isRunning (l
 
 -- a refused call leaves the line as it was
 abbrev pub answeredBy : Ruling → Line → Line → ℕ → Answered
-answeredBy allowed l changed k = record { line = changed; verdict = Accepted k }
-answeredBy (turnedDown r) l changed k = record { line = l; verdict = Refused r }
+answeredBy Allowed l changed k = record { line = changed; verdict = Accepted k }
+answeredBy (TurnedDown r) l changed k = record { line = l; verdict = Refused r }
 
 unfoldable pub describeOf : Line → TariffPart → Lists → BurstPart → Answered
 describeOf l t ls b =
@@ -167,20 +168,35 @@ abbrev pub movedBy : Line → ℕ → Tariff → Burst → Counters → Line
 movedBy l since t b n =
     record { pulse = l .pulse; spacing = l .spacing; clock = (l .clock + 1) % 2 ^ 32; since = since; tariff = t; phases = l .phases; count = l .count; burst = b; counters = n }
 
+-- what a tick tells of its tariff and its burst, its front and its report
+abbrev pub toldBy : Stepped → Aged → Front → Bool → Tick
+toldBy t b front report = record { tariff = t .complete; burst = b .complete; front = front; report = report }
+
+-- a tick with this front, where t, b and since are the tariff, the burst and the ticks since the last front one tick on
 abbrev pub tickWithFront : Line → Stepped → Aged → ℕ → Front → Ticked
 tickWithFront l t b since None =
-    record { line = movedBy l since (t .tariff) (b .burst) (l .counters); tick = record { tariff = t .complete; burst = b .complete; front = None; report = false } }
+    record { line = movedBy l since (t .tariff) (b .burst) (l .counters); tick = toldBy t b None false }
 tickWithFront l t b since TariffFront =
-    record { line = movedBy l 0 (t .tariff) (b .burst) (countOf (l .counters) .counters); tick = record { tariff = t .complete; burst = b .complete; front = TariffFront; report = countOf (l .counters) .report } }
+    record { line = movedBy l 0 (t .tariff) (b .burst) (countOf (l .counters) .counters); tick = toldBy t b TariffFront (countOf (l .counters) .report) }
 tickWithFront l t b since BurstFront =
-    record { line = movedBy l 0 (t .tariff) (begunOf (b .burst)) (countOf (l .counters) .counters); tick = record { tariff = t .complete; burst = b .complete; front = BurstFront; report = countOf (l .counters) .report } }
+    record { line = movedBy l 0 (t .tariff) (begunOf (b .burst)) (countOf (l .counters) .counters); tick = toldBy t b BurstFront (countOf (l .counters) .report) }
 
+-- the same with the front that is due
 abbrev pub tickBy : Line → Stepped → Aged → ℕ → Ticked
 tickBy l t b since = tickWithFront l t b since (frontAt (t .slot) (readyOf (l .spacing) since (b .burst) (t .tariff)))
 
 -- the clock goes up; what is over ends; a slot due now, or else a burst pulse, begins
 unfoldable pub tickOf : Line → Ticked
 tickOf l = tickBy l (stepOf (l .pulse) (l .phases) (l .count) (l .tariff)) (agedOf (l .pulse) (l .burst)) (heldMore (l .spacing) (l .since))
+
+-- n ticks one after the other, their answers left aside
+unfoldable pub afterTicks : ℕ → Line → Line
+afterTicks zero l = l
+afterTicks (suc n) l = tickOf (afterTicks n l) .line
+
+-- up to 1,000,000 ticks at once; more are not made, and the line stays as it was
+unfoldable pub ticksOf : ℕ → Line → Line
+ticksOf n l = cond (leb n 1000000) (afterTicks n l) l
 
 -- a pulse is on: fewer than D ticks since the last front
 unfoldable pub onOf : Line → Bool

@@ -1,6 +1,6 @@
 -- The history of a list of calls, each made on the line that the one before handed back or left.
 use mathlib.Core.List.{List, [], _∷_}
-use Prim.Native.Nat.{ℕ, _+_}
+use Prim.Native.Nat.{ℕ}
 use Rattle.line.specs.Calls.{Call, describe, hook, period, noPeriod, audit, tick, lentTick, Answer, accepted, refused, counters, ticked, Entry, entry}
 use Rattle.line.specs.Refusals.{numberOf}
 use Rattle.line.specs.Lines.{makeOf, describeOf, hookOf, periodOf, noPeriodOf, auditOf, tickOf, onOf}

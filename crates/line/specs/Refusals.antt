@@ -11,6 +11,8 @@ use Rattle.line.specs.declared.TariffPart.the-variants.{None as NoTariff
 use Rattle.line.specs.declared.BurstPart.{BurstPart}
 use Rattle.line.specs.declared.BurstPart.the-variants.{None as NoBurst, Keep as KeepBurst, Start}
 use Rattle.line.specs.declared.Refusal.{Refusal}
+use Rattle.line.specs.declared.Ruling.{Ruling}
+use Rattle.line.specs.declared.Ruling.the-variants.{Allowed, TurnedDown}
 use Rattle.line.specs.declared.Refusal.the-variants.{Configuration, Period, NoEndlessEm, Interval, Lists as PhaseLists, Phase, Burst, BurstRuns}
 
 -- the paper's number of each cause
@@ -28,14 +30,10 @@ numberOf BurstRuns = 8
 pub data Cause : Type 0 where
   cause : Refusal → Bool → Cause
 
-pub data Ruling : Type 0 where
-  allowed : Ruling
-  turnedDown : Refusal → Ruling
-
 -- the lowest number that applies: causes stand in ascending order
 unfoldable pub ruling : List Cause → Ruling
-ruling [] = allowed
-ruling (cause r applies ∷ rest) = cond applies (turnedDown r) (ruling rest)
+ruling [] = Allowed
+ruling (cause r applies ∷ rest) = cond applies (TurnedDown r) (ruling rest)
 
 -- D and G, each 1 to 500
 abbrev pub soundConfiguration : ℕ → ℕ → Bool

@@ -1,4 +1,16 @@
 // The line of a metering gateway: its record, what a descriptor and a hook event ask of it, and its answers.
+mod bursting;
+mod counting;
+mod descriptors;
+mod hooks;
+mod lent;
+mod making;
+mod phase_lists;
+mod refusals;
+mod reports;
+mod ticking;
+
+pub use lent::tick_in_place;
 use tariff::Phase;
 use tariff::Tariff;
 
@@ -66,6 +78,12 @@ pub enum Refusal {
     BurstRuns,
 }
 
+// What the table of refusals makes of a call.
+pub enum Ruling {
+    Allowed,
+    TurnedDown(Refusal),
+}
+
 // A call's answer: the burst pulses cancelled, or why it was turned down.
 pub enum Verdict {
     Accepted(u32),
@@ -101,6 +119,13 @@ pub struct Tick {
 pub struct Ticked {
     pub line: Line,
     pub tick: Tick,
+}
+
+// Phases read from seven lists: whether the lists are sound, and then the phases at the front of eight and how many.
+pub struct PhaseTable {
+    pub sound: bool,
+    pub phases: [Phase; 8],
+    pub count: u32,
 }
 
 // The counters after a front, and whether it gives a report.

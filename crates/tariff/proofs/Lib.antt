@@ -1,3 +1,4 @@
+-- The files of this folder, lowest first.
 pub mod Any
 pub mod Order
 pub mod From
@@ -29,3 +30,6 @@ pub mod Coupling
 pub mod Apart
 pub mod Laws
 pub mod Room
+pub mod Product
+pub mod Negated
+pub mod SoundFrom

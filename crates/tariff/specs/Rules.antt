@@ -1,5 +1,5 @@
 -- The rules that an em, a rate and a phase keep on a line of spacing S: "What is turned down" of the paper, 4 and 6.
-use mathlib.Core.Bool.{Bool, true, false, _&&_, _||_}
+use mathlib.Core.Bool.{Bool, true, _&&_, _||_}
 use mathlib.Core.List.{List, [], _∷_}
 use Prim.Native.Nat.{ℕ, zero, suc, _+_, _*_, _/_, _%_, max}
 use lib.Dec.{leb, ltb, eqb}

@@ -1,4 +1,15 @@
 // The tariffs of a line: the phases of a phased tariff, and where a running tariff stands.
+mod after;
+mod descriptor;
+mod numbers;
+mod phases;
+mod rules;
+mod steps;
+
+pub use phases::phase_at;
+pub use rules::is_within;
+pub use rules::sound_em;
+pub use rules::sound_phases;
 
 // A phase of a phased tariff, as a descriptor gives it.
 pub struct Phase {
@@ -34,10 +45,10 @@ pub enum Tariff {
         wait: u64,
     },
     // Before slot `pulse` of a charge interval: its phase, its map entry, and the seconds of the phase from its
-    // start on, 0 in an endless phase.
+    // start on, 0 in an endless phase. An entry counts up to repx + repn, which 32 bits may not hold.
     Phased {
         phase: u32,
-        entry: u32,
+        entry: u64,
         left: u32,
         pulse: u32,
         wait: u64,

@@ -1,0 +1,12 @@
+-- `Line::clear_period` meets its contract.
+use borrow.Author.Needs.{needs}
+use Rattle.line.specs.Lines.{noPeriodOf}
+use Rattle.line.proofs.Line.clear_period.Statement.{statement}
+use Rattle.line.proofs.Line.clear_period.Tie as tie
+
+returns : tie.Need-returns
+unfolding noPeriodOf
+returns c = search needs
+
+pub clear-period-spec : {M : Type 1} → statement M
+clear-period-spec = tie.close (tie.spec returns)

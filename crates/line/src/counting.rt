@@ -1,0 +1,49 @@
+// The counters: a front adds 1 to both, and may give a report.
+ghost use mathlib.Core.Path.{_≡_};
+ghost use Rattle.line.specs.Counting.{oneMore, reportDue};
+ghost use Rattle.line.specs.Lines.{countOf};
+use super::Count;
+use super::Counters;
+
+// One more, held at 4,294,967,295.
+fn one_more(n: u32) -> u32
+    ensures { λ r. ⌜ r ≡ oneMore n ⌝ }
+{
+    if n < 4294967295 { n + 1 } else { n }
+}
+
+// Whether a front that leaves pcslr at n gives a report.
+fn report_due(rp: u32, n: u32) -> bool
+    ensures { λ r. ⌜ r ≡ reportDue rp n ⌝ }
+{
+    if rp == 0 { false } else { n == rp }
+}
+
+impl Counters {
+    // After a front.
+    pub(crate) fn counted(self) -> Count
+        ensures { λ r. ⌜ r ≡ countOf self ⌝ }
+    {
+        let cpc = one_more(self.cpc);
+        let pcslr = one_more(self.pcslr);
+        if report_due(self.rp, pcslr) {
+            Count {
+                counters: Counters {
+                    cpc,
+                    pcslr: 0,
+                    rp: self.rp,
+                },
+                report: true,
+            }
+        } else {
+            Count {
+                counters: Counters {
+                    cpc,
+                    pcslr,
+                    rp: self.rp,
+                },
+                report: false,
+            }
+        }
+    }
+}

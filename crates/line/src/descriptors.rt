@@ -1,0 +1,175 @@
+// Descriptors: what the table of refusals makes of one, and the line and the answer after it.
+ghost use mathlib.Core.Path.{_≡_};
+ghost use Prim.Native.Nat.{max};
+ghost use Rattle.line.specs.Answers.{cancelledBy};
+ghost use Rattle.line.specs.Lines.{originWait, withEm, burstChanged, describeOf};
+ghost use Rattle.line.specs.Rulings.{listsOf, withTable, tariffSet, describeRuling};
+ghost use Rattle.tariff.specs.Steps.{emOf};
+use super::Answered;
+use super::Burst;
+use super::BurstPart;
+use super::Counters;
+use super::Line;
+use super::PhaseTable;
+use super::Ruling;
+use super::TariffPart;
+use super::Verdict;
+use super::phase_lists;
+use super::refusals;
+use tariff::Tariff;
+
+// The larger of two numbers.
+fn larger(a: u32, b: u32) -> u32
+    ensures { λ r. ⌜ r ≡ max a b ⌝ }
+{
+    if a < b { b } else { a }
+}
+
+// The pulses that a burst part cancels, of those owed.
+fn cancelled_by(part: BurstPart, owed: u32) -> u32
+    ensures { λ r. ⌜ r ≡ cancelledBy part owed ⌝ }
+{
+    match part {
+        BurstPart::None => owed,
+        BurstPart::Keep => 0,
+        BurstPart::Start {
+            pulses: _,
+            interval: _,
+        } => 0,
+    }
+}
+
+impl Line {
+    // The ticks to the origin of a fresh tariff.
+    fn origin_wait(self) -> u64
+        ensures { λ r. ⌜ r ≡ originWait self ⌝ }
+    {
+        if self.since < self.spacing {
+            (self.spacing - self.since) as u64
+        } else {
+            1
+        }
+    }
+
+    // The line with a fresh em, which zeroes the counters.
+    fn with_em(self, count: u32, period: u32) -> Line
+        ensures { λ r. ⌜ r ≡ withEm self (emOf count period (originWait self)) ⌝ }
+    {
+        let wait = self.origin_wait();
+        let rp = self.counters.rp;
+        Line {
+            tariff: Tariff::em(count, period, wait),
+            counters: Counters {
+                cpc: 0,
+                pcslr: 0,
+                rp,
+            },
+            ..self
+        }
+    }
+
+    // The line with a fresh phased tariff, whose phases are in the table.
+    fn with_table(self, table: PhaseTable) -> Line
+        ensures { λ r. ⌜ r ≡ withTable self table ⌝ }
+    {
+        let wait = self.origin_wait();
+        let phases = table.phases;
+        Line {
+            tariff: Tariff::phased(phases, wait),
+            phases,
+            count: table.count,
+            ..self
+        }
+    }
+
+    // The line with a tariff part taken, whose phases, if it is phased, are in the table.
+    fn with_tariff_part(self, part: TariffPart, table: PhaseTable) -> Line
+        ensures { λ r. ⌜ r ≡ tariffSet part table self ⌝ }
+    {
+        let old = self.tariff;
+        match part {
+            TariffPart::None => Line {
+                tariff: Tariff::Idle,
+                ..self
+            },
+            TariffPart::Keep => self,
+            TariffPart::Rate { interval } => Line {
+                tariff: old.rate(interval),
+                ..self
+            },
+            TariffPart::Em { count, period } => self.with_em(count, period),
+            TariffPart::Phased => self.with_table(table),
+        }
+    }
+
+    // The line with a burst part taken. A burst starts with its distance passed.
+    fn with_burst_part(self, part: BurstPart) -> Line
+        ensures { λ r. ⌜ r ≡ burstChanged part self ⌝ }
+    {
+        match part {
+            BurstPart::None => Line {
+                burst: Burst::Idle,
+                ..self
+            },
+            BurstPart::Keep => self,
+            BurstPart::Start { pulses, interval } => {
+                let distance = larger(interval, self.spacing);
+                Line {
+                    burst: Burst::Running {
+                        owed: pulses,
+                        distance,
+                        since: distance,
+                    },
+                    ..self
+                }
+            }
+        }
+    }
+
+    // What the table of refusals makes of a descriptor, whose phases, if it is phased, are in the table.
+    fn ruling(self, tariff: TariffPart, table: PhaseTable, burst: BurstPart) -> Ruling
+        ensures { λ r. ⌜ r ≡ describeRuling self tariff table burst ⌝ }
+    {
+        let running = self.tariff;
+        let bursting = self.burst;
+        let first = refusals::tariff_ruling(self.spacing, running.is_endless(), tariff, table);
+        match first {
+            Ruling::TurnedDown(_) => first,
+            Ruling::Allowed => refusals::burst_ruling(bursting.is_running(), burst),
+        }
+    }
+
+    // A descriptor. The seven lists are those of its phases, and are looked at only where its tariff part is phased.
+    pub fn describe(
+        self,
+        tariff: TariffPart,
+        pri: &[u32],
+        pcx: &[u32],
+        repx: &[u32],
+        pcn: &[u32],
+        repn: &[u32],
+        ci: &[u32],
+        pd: &[u32],
+        burst: BurstPart,
+    ) -> Answered
+        ensures { λ r. ⌜ r ≡ describeOf self tariff (listsOf (now (pri .entry)) (now (pcx .entry)) (now (repx .entry)) (now (pcn .entry)) (now (repn .entry)) (now (ci .entry)) (now (pd .entry))) burst ⌝ }
+    {
+        let table = phase_lists::phases_for(tariff, pri, pcx, repx, pcn, repn, ci, pd);
+        let ruling = self.ruling(tariff, table, burst);
+        match ruling {
+            Ruling::TurnedDown(refusal) => Answered {
+                line: self,
+                verdict: Verdict::Refused(refusal),
+            },
+            Ruling::Allowed => {
+                let old = self.burst;
+                let cancelled = cancelled_by(burst, old.owed());
+                let changed = self.with_tariff_part(tariff, table);
+                Answered {
+                    line: changed.with_burst_part(burst),
+                    verdict: Verdict::Accepted(cancelled),
+                }
+            }
+        }
+    }
+}

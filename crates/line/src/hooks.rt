@@ -1,0 +1,35 @@
+// Hook events.
+ghost use mathlib.Core.Path.{_≡_};
+ghost use Rattle.line.specs.Lines.{hookOf};
+use super::Answered;
+use super::Burst;
+use super::Hook;
+use super::Line;
+use super::Verdict;
+use tariff::Tariff;
+
+impl Line {
+    // A hook event: keep leaves the signals, stop ends the tariff and cancels the burst.
+    pub fn hook(self, event: Hook) -> Answered
+        ensures { λ r. ⌜ r ≡ hookOf self event ⌝ }
+    {
+        match event {
+            Hook::Keep => Answered {
+                line: self,
+                verdict: Verdict::Accepted(0),
+            },
+            Hook::Stop => {
+                let burst = self.burst;
+                let owed = burst.owed();
+                Answered {
+                    line: Line {
+                        tariff: Tariff::Idle,
+                        burst: Burst::Idle,
+                        ..self
+                    },
+                    verdict: Verdict::Accepted(owed),
+                }
+            }
+        }
+    }
+}

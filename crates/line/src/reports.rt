@@ -1,0 +1,49 @@
+// The report period and audits.
+ghost use mathlib.Core.Path.{_≡_};
+ghost use Rattle.line.specs.Lines.{periodOf, noPeriodOf, auditOf};
+use super::Answered;
+use super::Audited;
+use super::Line;
+use super::Refusal;
+use super::Verdict;
+
+impl Line {
+    // Sets the report period; pcslr stays.
+    pub fn set_period(mut self, rp: u32) -> Answered
+        ensures { λ r. ⌜ r ≡ periodOf self rp ⌝ }
+    {
+        if rp == 0 {
+            return Answered {
+                line: self,
+                verdict: Verdict::Refused(Refusal::Period),
+            };
+        }
+        self.counters.rp = rp;
+        Answered {
+            line: self,
+            verdict: Verdict::Accepted(0),
+        }
+    }
+
+    // Clears the report period; pcslr stays.
+    pub fn clear_period(mut self) -> Answered
+        ensures { λ r. ⌜ r ≡ noPeriodOf self ⌝ }
+    {
+        self.counters.rp = 0;
+        Answered {
+            line: self,
+            verdict: Verdict::Accepted(0),
+        }
+    }
+
+    // Both counters; the line is as it was.
+    pub fn audit(self) -> Audited
+        ensures { λ r. ⌜ r ≡ auditOf self ⌝ }
+    {
+        Audited {
+            line: self,
+            cpc: self.counters.cpc,
+            pcslr: self.counters.pcslr,
+        }
+    }
+}

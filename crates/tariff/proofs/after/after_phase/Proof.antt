@@ -1,0 +1,30 @@
+-- `after_phase` meets its contract.
+use borrow.Author.Needs.{needs}
+use borrow.Author.Tests.{lt-ltb, le-ltb}
+use Rattle.tariff.specs.Steps.{afterPhase}
+use Rattle.tariff.proofs.after.after_phase.Statement.{statement}
+use Rattle.tariff.proofs.after.after_phase.Tie as tie
+
+add-if1 : tie.Need-add-if1
+add-if1 c = search needs
+
+add-phase-at : tie.Need-add-phase-at
+add-phase-at c = search needs
+
+phase-at-requires : tie.Need-phase-at-requires
+phase-at-requires c κs = search needs
+
+add-t11 : tie.Need-add-t11
+add-t11 c = search needs
+
+returns : tie.Need-returns
+unfolding afterPhase
+returns c = rw (lt-ltb _ _ (c .before .if1 .taken), c .phase-at .ensures)
+
+returns-2 : tie.Need-returns-2
+unfolding afterPhase
+returns-2 c = rw (le-ltb _ _ (c .if1 .left))
+
+pub after-phase-spec : {M : Type 1} → statement M
+after-phase-spec =
+    tie.close (tie.spec add-if1 add-phase-at phase-at-requires add-t11 returns returns-2)

@@ -1,0 +1,113 @@
+// The tariff after a slot.
+ghost use mathlib.Core.Path.{_≡_};
+ghost use mathlib.Core.Bool.{_||_};
+ghost use Prim.Native.Nat.{_<_};
+ghost use lib.Dec.{eqb, ltb};
+ghost use Rattle.tariff.specs.Steps.{distanceAfter, afterCounted, afterPhase, afterInterval, afterPhased};
+use super::Phase;
+use super::Tariff;
+use super::numbers;
+use super::phases;
+
+// The ticks from slot k of an em with C > 0 to slot k + 1, each multiplied before it is divided, so that none drifts.
+fn distance_after(count: u32, period: u32, k: u32) -> u64
+    requires { ⌜ 0 < count ⌝ }
+    ensures { λ r. ⌜ r ≡ distanceAfter count period k ⌝ }
+{
+    let c = count as u64;
+    let product = numbers::times(k, period);
+    (product + period as u64) / c - product / c
+}
+
+// After slot k of an em with C > 0: slot k + 1, or the end of the last pulse.
+pub(crate) fn after_counted(pulse: u32, count: u32, period: u32, k: u32) -> Tariff
+    ensures { λ r. ⌜ r ≡ afterCounted pulse count period k ⌝ }
+{
+    if k as u64 + 1 < count as u64 {
+        Tariff::Counted {
+            count,
+            period,
+            next: k + 1,
+            wait: distance_after(count, period, k),
+        }
+    } else {
+        Tariff::Ending { wait: pulse as u64 }
+    }
+}
+
+// After the last interval of phase i, which ends in `wait` ticks: the next phase, if there is one.
+fn after_phase(phases: [Phase; 8], count: u32, i: u32, wait: u64) -> Tariff
+    ensures { λ r. ⌜ r ≡ afterPhase phases count i wait ⌝ }
+{
+    if i as u64 + 1 < count as u64 {
+        let p = phases::phase_at(phases, i + 1);
+        Tariff::Phased {
+            phase: i + 1,
+            entry: 0,
+            left: p.pd,
+            pulse: 0,
+            wait,
+        }
+    } else {
+        Tariff::Ending { wait }
+    }
+}
+
+// Whether a phase goes on after an interval of ci seconds, at whose start `left` seconds were left, 0 for no end.
+fn goes_on(left: u32, ci: u32) -> bool
+    ensures { λ r. ⌜ r ≡ (eqb left 0 || ltb ci left) ⌝ }
+{
+    if left == 0 { true } else { ci < left }
+}
+
+// After slot j, the last of an interval of phase i, which is p: the next interval of the phase, if there is one.
+fn after_interval(
+    phases: [Phase; 8],
+    count: u32,
+    i: u32,
+    entry: u64,
+    left: u32,
+    j: u32,
+    p: Phase,
+) -> Tariff
+    ensures { λ r. ⌜ r ≡ afterInterval phases count i entry left j p ⌝ }
+{
+    let passed = numbers::times(j, p.pri);
+    if goes_on(left, p.ci) {
+        Tariff::Phased {
+            phase: i,
+            entry: p.next_entry(entry),
+            left: numbers::minus(left as u64, p.ci as u64) as u32,
+            pulse: 0,
+            wait: numbers::minus(1000 * p.ci as u64, passed),
+        }
+    } else {
+        after_phase(phases, count, i, numbers::minus(1000 * left as u64, passed))
+    }
+}
+
+// After slot j of an interval of m pulses of phase i, which is p: slot j + 1 of the interval, if there is one.
+pub(crate) fn after_phased(
+    phases: [Phase; 8],
+    count: u32,
+    i: u32,
+    entry: u64,
+    left: u32,
+    j: u32,
+    p: Phase,
+    m: u32,
+) -> Tariff
+    ensures { λ r. ⌜ r ≡ afterPhased phases count i entry left j p m ⌝ }
+{
+    if j as u64 + 1 < m as u64 {
+        Tariff::Phased {
+            phase: i,
+            entry,
+            left,
+            pulse: j + 1,
+            wait: p.pri as u64,
+        }
+    } else {
+        after_interval(phases, count, i, entry, left, j, p)
+    }
+}

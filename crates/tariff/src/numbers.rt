@@ -1,0 +1,24 @@
+// Arithmetic that never overflows.
+ghost use mathlib.Core.Path.{_≡_};
+ghost use Prim.Native.Nat.{_-_, _*_, min};
+
+// a − b, or 0 where b is the larger.
+pub(crate) fn minus(a: u64, b: u64) -> u64
+    ensures { λ r. ⌜ r ≡ a - b ⌝ }
+{
+    if a < b { 0 } else { a - b }
+}
+
+// a × b, which 64 bits always hold.
+pub(crate) fn times(a: u32, b: u32) -> u64
+    ensures { λ r. ⌜ r ≡ a * b ⌝ }
+{
+    a as u64 * b as u64
+}
+
+// The smaller of two numbers.
+pub(crate) fn least(a: u32, b: u32) -> u32
+    ensures { λ r. ⌜ r ≡ min a b ⌝ }
+{
+    if a <= b { a } else { b }
+}
