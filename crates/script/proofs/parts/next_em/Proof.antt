@@ -1,0 +1,32 @@
+-- `next_em` meets its contract.
+use borrow.Author.Needs.{needs}
+use Rattle.script.proofs.parts.next_em.Statement.{statement}
+use Rattle.script.proofs.parts.next_em.Tie as tie
+
+next-pair-requires : tie.Need-next-pair-requires
+next-pair-requires c κs = search needs
+
+enum-known-count : tie.Need-enum-known-count
+enum-known-count c = search needs
+
+enum-told : tie.Need-enum-told
+enum-told c = search needs
+
+returns : tie.Need-returns
+returns c =
+    let n1 = c .before .before in
+    rw (
+      ← n1 .next-pair .ensures,
+      c .enum-told .given .1,
+    )
+
+returns-2 : tie.Need-returns-2
+returns-2 c =
+    let n1 = c .before .before .before in
+    rw (
+      ← n1 .next-pair .ensures,
+      c .before .count .given .1,
+    )
+
+pub next-em-spec : {M : Type 1} → statement M
+next-em-spec = tie.close (tie.spec next-pair-requires enum-known-count enum-told returns returns-2)

@@ -1,0 +1,77 @@
+-- `put_line` meets its contract.
+use borrow.Author.Needs.{needs}
+use Rattle.script.proofs.text.put_line.Statement.{statement}
+use Rattle.script.proofs.text.put_line.Tie as tie
+
+enum-known-answer : tie.Need-enum-known-answer
+enum-known-answer c = search needs
+
+slice-aggregate-put-around : tie.Need-slice-aggregate-put-around
+slice-aggregate-put-around c = search needs
+
+slice-aggregate-put-around-2 : tie.Need-slice-aggregate-put-around-2
+slice-aggregate-put-around-2 c = search needs
+
+put-around-requires : tie.Need-put-around-requires
+put-around-requires c κs = search needs
+
+enum-known-answer-2 : tie.Need-enum-known-answer-2
+enum-known-answer-2 c = search needs
+
+slice-aggregate-put-around-3 : tie.Need-slice-aggregate-put-around-3
+slice-aggregate-put-around-3 c = search needs
+
+slice-aggregate-put-around-4 : tie.Need-slice-aggregate-put-around-4
+slice-aggregate-put-around-4 c = search needs
+
+put-around-requires-2 : tie.Need-put-around-requires-2
+put-around-requires-2 c κs = search needs
+
+enum-told : tie.Need-enum-told
+enum-told c = search needs
+
+slice-aggregate-put-bytes : tie.Need-slice-aggregate-put-bytes
+slice-aggregate-put-bytes c = search needs
+
+put-bytes-requires : tie.Need-put-bytes-requires
+put-bytes-requires c κs = search needs
+
+same-length : tie.Need-same-length
+same-length c = search needs
+
+returns : tie.Need-returns
+returns c = let p = c .before .before in rw (p .before .before .before .before .before .answer .given .1) (p .put-around .ensures .0)
+
+same-length-2 : tie.Need-same-length-2
+same-length-2 c = search needs
+
+returns-2 : tie.Need-returns-2
+returns-2 c = let p = c .before .before in rw (p .before .before .before .before .before .answer2 .given .1) (p .put-around2 .ensures .0)
+
+same-length-3 : tie.Need-same-length-3
+same-length-3 c = search needs
+
+returns-3 : tie.Need-returns-3
+returns-3 c = let p = c .before .before in rw (p .before .before .before .enum-told .given .1) (p .put-bytes .ensures)
+
+pub put-line-spec : {M : Type 1} → statement M
+put-line-spec =
+    tie.close
+    (tie.spec
+    enum-known-answer
+    slice-aggregate-put-around
+    slice-aggregate-put-around-2
+    put-around-requires
+    enum-known-answer-2
+    slice-aggregate-put-around-3
+    slice-aggregate-put-around-4
+    put-around-requires-2
+    enum-told
+    slice-aggregate-put-bytes
+    put-bytes-requires
+    same-length
+    returns
+    same-length-2
+    returns-2
+    same-length-3
+    returns-3)

@@ -1,0 +1,10 @@
+-- The definitions that the contracts cite, lowest first.
+pub mod Words
+pub mod Numbers
+pub mod Readers
+pub mod Runs
+pub mod Told
+pub mod Commands
+pub mod Text
+pub mod Buffer
+pub mod Examples
