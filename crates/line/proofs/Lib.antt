@@ -1,21 +1,2 @@
--- The files of this folder, lowest first.
-pub mod Held
-pub mod Counts
-pub mod Coupled
-pub mod Commands
-pub mod Bursts
-pub mod Ticks
-pub mod Rulings
-pub mod PhaseTables
+-- The files of this folder.
 pub mod Described
-pub mod Run
-pub mod Potential
-pub mod Effects
-pub mod Bound
-pub mod AnswerKinds
-pub mod Sum
-pub mod Spacing
-pub mod Demand
-pub mod Bounds
-pub mod Refused
-pub mod Methods

@@ -1,31 +1,32 @@
 -- What each command makes of a line and answers: what the code computes.
-use mathlib.Core.Bool.{Bool, true, false, cond, _&&_}
-use mathlib.Core.List.{List, _++_}
-use Prim.Native.Nat.{ℕ, zero, suc, _+_, _-_, _%_, _^_, min, max}
-use lib.Dec.{leb, ltb, eqb}
-use lib.ListN.{length, replicate}
-use Rattle.tariff.specs.declared.Phase.{Phase}
+use mathlib.Core.Bool.{Bool, true, false, cond}
+use Prim.Native.Nat.{ℕ, zero, suc, _+_, _-_, _%_, _^_, max}
+use lib.Dec.{leb, ltb}
+use Rattle.tariff.specs.Steps.{stepOf, emOf, phasedOf, rateOf, isEndless}
 use Rattle.tariff.specs.declared.Tariff.{Tariff}
 use Rattle.tariff.specs.declared.Tariff.the-variants.{Idle}
 use Rattle.tariff.specs.declared.Stepped.{Stepped}
-use Rattle.tariff.specs.Steps.{noPhase, stepOf, roomOf, emOf, phasedOf, rateOf, isEndless}
-use Rattle.line.specs.Counting.{oneMore, reportDue}
-use Rattle.line.specs.Calls.{Lists, phasesOf, Call, describe, period}
-use Rattle.line.specs.Refusals.{ruling, causes, soundConfiguration}
-use Rattle.line.specs.declared.Ruling.{Ruling}
-use Rattle.line.specs.declared.Ruling.the-variants.{Allowed, TurnedDown}
-use Rattle.line.specs.Answers.{cancelledBy, frontAt}
-use Rattle.line.specs.declared.TariffPart.{TariffPart}
-use Rattle.line.specs.declared.TariffPart.the-variants.{None as NoTariff, Keep as KeepTariff, Rate, Em, Phased}
-use Rattle.line.specs.declared.BurstPart.{BurstPart}
-use Rattle.line.specs.declared.BurstPart.the-variants.{None as NoBurst, Keep as KeepBurst, Start}
+use Rattle.phase_lists.specs.Lists.{Lists, phasesOf}
+use Rattle.phase_lists.specs.Tables.{noPhases, tableWith}
+use Rattle.phase_lists.specs.declared.PhaseTable.{PhaseTable}
+use Rattle.descriptor.specs.Refusals.{ruling, soundConfiguration, descriptorCauses, periodCauses}
+use Rattle.descriptor.specs.Rulings.{descriptorRuling}
+use Rattle.descriptor.specs.declared.Ruling.{Ruling}
+use Rattle.descriptor.specs.declared.Ruling.the-variants.{Allowed, TurnedDown}
+use Rattle.descriptor.specs.declared.TariffPart.{TariffPart}
+use Rattle.descriptor.specs.declared.TariffPart.the-variants.{None as NoTariff, Keep as KeepTariff, Rate, Em, Phased}
+use Rattle.descriptor.specs.declared.BurstPart.{BurstPart}
+use Rattle.descriptor.specs.declared.BurstPart.the-variants.{None as NoBurst, Keep as KeepBurst, Start}
+use Rattle.descriptor.specs.declared.Refusal.the-variants.{Configuration}
+use Rattle.burst.specs.Bursts.{heldMore, owedBy, isRunning, agedOf, readyOf, begunOf}
+use Rattle.burst.specs.declared.Burst.{Burst}
+use Rattle.burst.specs.declared.Burst.the-variants.{Idle as NoBurstRuns, Running}
+use Rattle.burst.specs.declared.Aged.{Aged}
+use Rattle.line.specs.Rules.{oneMore, reportDue, cancelledBy, frontAt}
 use Rattle.line.specs.declared.Hook.{Hook}
 use Rattle.line.specs.declared.Hook.the-variants.{Keep, Stop}
-use Rattle.line.specs.declared.Burst.{Burst}
-use Rattle.line.specs.declared.Burst.the-variants.{Idle as NoBurstRuns, Running}
 use Rattle.line.specs.declared.Counters.{Counters}
 use Rattle.line.specs.declared.Line.{Line}
-use Rattle.line.specs.declared.Refusal.the-variants.{Configuration}
 use Rattle.line.specs.declared.Verdict.the-variants.{Accepted, Refused}
 use Rattle.line.specs.declared.Answered.{Answered}
 use Rattle.line.specs.declared.Audited.{Audited}
@@ -34,12 +35,8 @@ use Rattle.line.specs.declared.Front.the-variants.{None, Tariff as Tarif
 use Rattle.line.specs.declared.Tick.{Tick}
 use Rattle.line.specs.declared.Ticked.{Ticked}
 use Rattle.line.specs.declared.Count.{Count}
-use Rattle.line.specs.declared.Aged.{Aged}
 
 -- ---- making a line
-
-abbrev pub noPhases : List Phase
-noPhases = replicate 8 noPhase
 
 abbrev pub zeroCounters : ℕ → Counters
 zeroCounters rp = record { cpc = 0; pcslr = 0; rp = rp }
@@ -74,37 +71,23 @@ abbrev pub withEm : Line → Tariff → Line
 withEm l t =
     record { pulse = l .pulse; spacing = l .spacing; clock = l .clock; since = l .since; tariff = t; phases = l .phases; count = l .count; burst = l .burst; counters = zeroCounters (l .counters .rp) }
 
--- the phases at the array's front, and the rest of it filled up
-abbrev pub eightOf : List Phase → List Phase
-eightOf ps = ps ++ replicate (8 - length ps) noPhase
+-- the phases are in a table
+abbrev pub withTable : Line → PhaseTable → Line
+withTable l t =
+    record { pulse = l .pulse; spacing = l .spacing; clock = l .clock; since = l .since; tariff = phasedOf (t .phases) (originWait l); phases = t .phases; count = t .count; burst = l .burst; counters = l .counters }
 
-abbrev pub withPhases : Line → List Phase → Line
-withPhases l ps =
-    record { pulse = l .pulse; spacing = l .spacing; clock = l .clock; since = l .since; tariff = phasedOf (eightOf ps) (originWait l); phases = eightOf ps; count = length ps; burst = l .burst; counters = l .counters }
-
-unfoldable pub tariffChanged : TariffPart → List Phase → Line → Line
-tariffChanged NoTariff ps l = withTariff l Idle
-tariffChanged KeepTariff ps l = l
-tariffChanged (Rate P) ps l = withTariff l (rateOf P (l .tariff))
-tariffChanged (Em C P) ps l = withEm l (emOf C P (originWait l))
-tariffChanged Phased ps l = withPhases l ps
+unfoldable pub tariffChanged : TariffPart → PhaseTable → Line → Line
+tariffChanged NoTariff t l = withTariff l Idle
+tariffChanged KeepTariff t l = l
+tariffChanged (Rate P) t l = withTariff l (rateOf P (l .tariff))
+tariffChanged (Em C P) t l = withEm l (emOf C P (originWait l))
+tariffChanged Phased t l = withTable l t
 
 -- a burst starts with its distance passed
 unfoldable pub burstChanged : BurstPart → Line → Line
 burstChanged NoBurst l = withBurst l NoBurstRuns
 burstChanged KeepBurst l = l
 burstChanged (Start n P) l = withBurst l (Running n (max P (l .spacing)) (max P (l .spacing)))
-
-abbrev pub owedBy : Burst → ℕ
-owedBy NoBurstRuns = 0
-owedBy (Running m B k) = m
-
-abbrev pub isRunning : Burst → Bool
-isRunning NoBurstRuns = false
-isRunning (Running m B k) = true
-
-abbrev pub rulingOf : Line → Call → Ruling
-rulingOf l c = ruling (causes (l .spacing) (isEndless (l .tariff)) (isRunning (l .burst)) c)
 
 -- a refused call leaves the line as it was
 abbrev pub answeredBy : Ruling → Line → Line → ℕ → Answered
@@ -113,7 +96,12 @@ answeredBy (TurnedDown r) l changed k = record { line = l; verdict = Refused r }
 
 unfoldable pub describeOf : Line → TariffPart → Lists → BurstPart → Answered
 describeOf l t ls b =
-    answeredBy (rulingOf l (describe t ls b)) l (burstChanged b (tariffChanged t (phasesOf ls) l)) (cancelledBy b (owedBy (l .burst)))
+    answeredBy (ruling (descriptorCauses (l .spacing) (isEndless (l .tariff)) (isRunning (l .burst)) t ls b)) l (burstChanged b (tariffChanged t (tableWith (phasesOf ls)) l)) (cancelledBy b (owedBy (l .burst)))
+
+-- the same with the phases in a table, as the code has them
+abbrev pub describedBy : Line → TariffPart → PhaseTable → BurstPart → Answered
+describedBy l t table b =
+    answeredBy (descriptorRuling (l .spacing) (isEndless (l .tariff)) (isRunning (l .burst)) t table b) l (burstChanged b (tariffChanged t table l)) (cancelledBy b (owedBy (l .burst)))
 
 unfoldable pub hookOf : Line → Hook → Answered
 hookOf l Keep = record { line = l; verdict = Accepted 0 }
@@ -126,7 +114,7 @@ withPeriod l n =
     record { pulse = l .pulse; spacing = l .spacing; clock = l .clock; since = l .since; tariff = l .tariff; phases = l .phases; count = l .count; burst = l .burst; counters = record { cpc = l .counters .cpc; pcslr = l .counters .pcslr; rp = n } }
 
 unfoldable pub periodOf : Line → ℕ → Answered
-periodOf l n = answeredBy (rulingOf l (period n)) l (withPeriod l n) 0
+periodOf l n = answeredBy (ruling (periodCauses n)) l (withPeriod l n) 0
 
 unfoldable pub noPeriodOf : Line → Answered
 noPeriodOf l = record { line = withPeriod l 0; verdict = Accepted 0 }
@@ -135,26 +123,6 @@ unfoldable pub auditOf : Line → Audited
 auditOf l = record { line = l; cpc = l .counters .cpc; pcslr = l .counters .pcslr }
 
 -- ---- one tick
-
--- one tick more, held at n
-abbrev pub heldMore : ℕ → ℕ → ℕ
-heldMore n k = min n (k + 1)
-
--- a burst of which no pulse is owed is complete D ticks after its last front
-unfoldable pub agedOf : ℕ → Burst → Aged
-agedOf D NoBurstRuns = record { burst = NoBurstRuns; complete = false }
-agedOf D (Running m B k) =
-    cond (eqb m 0 && eqb (heldMore B k) D) (record { burst = NoBurstRuns; complete = true })
-    (record { burst = Running m B (heldMore B k); complete = false })
-
--- a burst pulse may start: one is owed, the distances have passed, and the next slot is far enough
-unfoldable pub readyOf : ℕ → ℕ → Burst → Tariff → Bool
-readyOf S since NoBurstRuns t = false
-readyOf S since (Running m B k) t = (ltb 0 m && leb B k) && (leb S since && roomOf S t)
-
-abbrev pub begunOf : Burst → Burst
-begunOf NoBurstRuns = NoBurstRuns
-begunOf (Running m B k) = Running (m - 1) B 0
 
 -- a front adds 1 to both counters, and may give a report
 unfoldable pub countOf : Counters → Count
@@ -172,14 +140,17 @@ movedBy l since t b n =
 abbrev pub toldBy : Stepped → Aged → Front → Bool → Tick
 toldBy t b front report = record { tariff = t .complete; burst = b .complete; front = front; report = report }
 
--- a tick with this front, where t, b and since are the tariff, the burst and the ticks since the last front one tick on
+-- a tick with a front, where t and b are the tariff and the burst one tick on, and burst is what the front leaves of b
+abbrev pub tickWithPulse : Line → Stepped → Aged → Burst → Front → Ticked
+tickWithPulse l t b burst front =
+    record { line = movedBy l 0 (t .tariff) burst (countOf (l .counters) .counters); tick = toldBy t b front (countOf (l .counters) .report) }
+
+-- a tick with this front or none, where t, b and since are the tariff, the burst and the ticks since the last front one tick on
 abbrev pub tickWithFront : Line → Stepped → Aged → ℕ → Front → Ticked
 tickWithFront l t b since None =
     record { line = movedBy l since (t .tariff) (b .burst) (l .counters); tick = toldBy t b None false }
-tickWithFront l t b since TariffFront =
-    record { line = movedBy l 0 (t .tariff) (b .burst) (countOf (l .counters) .counters); tick = toldBy t b TariffFront (countOf (l .counters) .report) }
-tickWithFront l t b since BurstFront =
-    record { line = movedBy l 0 (t .tariff) (begunOf (b .burst)) (countOf (l .counters) .counters); tick = toldBy t b BurstFront (countOf (l .counters) .report) }
+tickWithFront l t b since TariffFront = tickWithPulse l t b (b .burst) TariffFront
+tickWithFront l t b since BurstFront = tickWithPulse l t b (begunOf (b .burst)) BurstFront
 
 -- the same with the front that is due
 abbrev pub tickBy : Line → Stepped → Aged → ℕ → Ticked

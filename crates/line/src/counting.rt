@@ -1,6 +1,6 @@
 // The counters: a front adds 1 to both, and may give a report.
 ghost use mathlib.Core.Path.{_≡_};
-ghost use Rattle.line.specs.Counting.{oneMore, reportDue};
+ghost use Rattle.line.specs.Rules.{oneMore, reportDue};
 ghost use Rattle.line.specs.Lines.{countOf};
 use super::Count;
 use super::Counters;
@@ -16,7 +16,7 @@ fn one_more(n: u32) -> u32
 fn report_due(rp: u32, n: u32) -> bool
     ensures { λ r. ⌜ r ≡ reportDue rp n ⌝ }
 {
-    if rp == 0 { false } else { n == rp }
+    (0 < rp) & (n == rp)
 }
 
 impl Counters {

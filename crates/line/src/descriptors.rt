@@ -1,21 +1,21 @@
 // Descriptors: what the table of refusals makes of one, and the line and the answer after it.
 ghost use mathlib.Core.Path.{_≡_};
 ghost use Prim.Native.Nat.{max};
-ghost use Rattle.line.specs.Answers.{cancelledBy};
-ghost use Rattle.line.specs.Lines.{originWait, withEm, burstChanged, describeOf};
-ghost use Rattle.line.specs.Rulings.{listsOf, withTable, tariffSet, describeRuling};
-ghost use Rattle.tariff.specs.Steps.{emOf};
+ghost use Rattle.tariff.specs.Steps.{emOf, isEndless};
+ghost use Rattle.phase_lists.specs.Lists.{listsOf};
+ghost use Rattle.descriptor.specs.Rulings.{descriptorRuling};
+ghost use Rattle.burst.specs.Bursts.{isRunning};
+ghost use Rattle.line.specs.Rules.{cancelledBy};
+ghost use Rattle.line.specs.Lines.{originWait, withEm, withTable, tariffChanged, burstChanged, describedBy, describeOf};
 use super::Answered;
-use super::Burst;
-use super::BurstPart;
 use super::Counters;
 use super::Line;
-use super::PhaseTable;
-use super::Ruling;
-use super::TariffPart;
 use super::Verdict;
-use super::phase_lists;
-use super::refusals;
+use burst::Burst;
+use descriptor::BurstPart;
+use descriptor::Ruling;
+use descriptor::TariffPart;
+use phase_lists::PhaseTable;
 use tariff::Tariff;
 
 // The larger of two numbers.
@@ -84,19 +84,13 @@ impl Line {
 
     // The line with a tariff part taken, whose phases, if it is phased, are in the table.
     fn with_tariff_part(self, part: TariffPart, table: PhaseTable) -> Line
-        ensures { λ r. ⌜ r ≡ tariffSet part table self ⌝ }
+        ensures { λ r. ⌜ r ≡ tariffChanged part table self ⌝ }
     {
         let old = self.tariff;
         match part {
-            TariffPart::None => Line {
-                tariff: Tariff::Idle,
-                ..self
-            },
+            TariffPart::None => self.with_tariff(Tariff::Idle),
             TariffPart::Keep => self,
-            TariffPart::Rate { interval } => Line {
-                tariff: old.rate(interval),
-                ..self
-            },
+            TariffPart::Rate { interval } => self.with_tariff(old.rate(interval)),
             TariffPart::Em { count, period } => self.with_em(count, period),
             TariffPart::Phased => self.with_table(table),
         }
@@ -107,35 +101,49 @@ impl Line {
         ensures { λ r. ⌜ r ≡ burstChanged part self ⌝ }
     {
         match part {
-            BurstPart::None => Line {
-                burst: Burst::Idle,
-                ..self
-            },
+            BurstPart::None => self.with_burst(Burst::Idle),
             BurstPart::Keep => self,
             BurstPart::Start { pulses, interval } => {
                 let distance = larger(interval, self.spacing);
-                Line {
-                    burst: Burst::Running {
-                        owed: pulses,
-                        distance,
-                        since: distance,
-                    },
-                    ..self
-                }
+                self.with_burst(Burst::Running {
+                    owed: pulses,
+                    distance,
+                    since: distance,
+                })
             }
         }
     }
 
     // What the table of refusals makes of a descriptor, whose phases, if it is phased, are in the table.
     fn ruling(self, tariff: TariffPart, table: PhaseTable, burst: BurstPart) -> Ruling
-        ensures { λ r. ⌜ r ≡ describeRuling self tariff table burst ⌝ }
+        ensures { λ r. ⌜ r ≡ descriptorRuling (self .spacing) (isEndless (self .tariff)) (isRunning (self .burst)) tariff table burst ⌝ }
     {
-        let running = self.tariff;
-        let bursting = self.burst;
-        let first = refusals::tariff_ruling(self.spacing, running.is_endless(), tariff, table);
-        match first {
-            Ruling::TurnedDown(_) => first,
-            Ruling::Allowed => refusals::burst_ruling(bursting.is_running(), burst),
+        let old_tariff = self.tariff;
+        let old_burst = self.burst;
+        let endless = old_tariff.is_endless();
+        let running = old_burst.is_running();
+        descriptor::ruling_on(self.spacing, endless, running, tariff, table, burst)
+    }
+
+    // A descriptor whose phases, if it is phased, are in the table.
+    fn described(self, tariff: TariffPart, table: PhaseTable, burst: BurstPart) -> Answered
+        ensures { λ r. ⌜ r ≡ describedBy self tariff table burst ⌝ }
+    {
+        let ruling = self.ruling(tariff, table, burst);
+        match ruling {
+            Ruling::TurnedDown(refusal) => Answered {
+                line: self,
+                verdict: Verdict::Refused(refusal),
+            },
+            Ruling::Allowed => {
+                let old = self.burst;
+                let cancelled = cancelled_by(burst, old.owed());
+                let changed = self.with_tariff_part(tariff, table);
+                Answered {
+                    line: changed.with_burst_part(burst),
+                    verdict: Verdict::Accepted(cancelled),
+                }
+            }
         }
     }
 
@@ -154,22 +162,7 @@ impl Line {
     ) -> Answered
         ensures { λ r. ⌜ r ≡ describeOf self tariff (listsOf (now (pri .entry)) (now (pcx .entry)) (now (repx .entry)) (now (pcn .entry)) (now (repn .entry)) (now (ci .entry)) (now (pd .entry))) burst ⌝ }
     {
-        let table = phase_lists::phases_for(tariff, pri, pcx, repx, pcn, repn, ci, pd);
-        let ruling = self.ruling(tariff, table, burst);
-        match ruling {
-            Ruling::TurnedDown(refusal) => Answered {
-                line: self,
-                verdict: Verdict::Refused(refusal),
-            },
-            Ruling::Allowed => {
-                let old = self.burst;
-                let cancelled = cancelled_by(burst, old.owed());
-                let changed = self.with_tariff_part(tariff, table);
-                Answered {
-                    line: changed.with_burst_part(burst),
-                    verdict: Verdict::Accepted(cancelled),
-                }
-            }
-        }
+        let table = descriptor::phases_for(tariff, pri, pcx, repx, pcn, repn, ci, pd);
+        self.described(tariff, table, burst)
     }
 }

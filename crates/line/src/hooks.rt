@@ -2,10 +2,10 @@
 ghost use mathlib.Core.Path.{_≡_};
 ghost use Rattle.line.specs.Lines.{hookOf};
 use super::Answered;
-use super::Burst;
 use super::Hook;
 use super::Line;
 use super::Verdict;
+use burst::Burst;
 use tariff::Tariff;
 
 impl Line {
@@ -21,12 +21,9 @@ impl Line {
             Hook::Stop => {
                 let burst = self.burst;
                 let owed = burst.owed();
+                let quiet = self.with_tariff(Tariff::Idle);
                 Answered {
-                    line: Line {
-                        tariff: Tariff::Idle,
-                        burst: Burst::Idle,
-                        ..self
-                    },
+                    line: quiet.with_burst(Burst::Idle),
                     verdict: Verdict::Accepted(owed),
                 }
             }

@@ -1,49 +1,21 @@
-// The line of a metering gateway: its record, what a descriptor and a hook event ask of it, and its answers.
-mod bursting;
+// The line of a metering gateway: its record, its calls and their answers.
 mod counting;
 mod descriptors;
 mod hooks;
-mod lent;
 mod making;
-mod phase_lists;
-mod refusals;
+mod parts;
 mod reports;
 mod ticking;
 
-pub use lent::tick_in_place;
+use burst::Burst;
+use descriptor::Refusal;
 use tariff::Phase;
 use tariff::Tariff;
-
-// The tariff part of a descriptor. The lists of a phased tariff stand beside it.
-pub enum TariffPart {
-    None,
-    Keep,
-    Rate { interval: u32 },
-    Em { count: u32, period: u32 },
-    Phased,
-}
-
-// The burst part of a descriptor.
-pub enum BurstPart {
-    None,
-    Keep,
-    Start { pulses: u32, interval: u32 },
-}
 
 // What an on-hook event carries.
 pub enum Hook {
     Keep,
     Stop,
-}
-
-// A burst: the pulses owed, the least distance of its fronts, and the ticks since its last front, held at that distance.
-pub enum Burst {
-    Idle,
-    Running {
-        owed: u32,
-        distance: u32,
-        since: u32,
-    },
 }
 
 // The pulses applied, the pulses since the last report, and the report period, 0 for none.
@@ -64,24 +36,6 @@ pub struct Line {
     pub count: u32,
     pub burst: Burst,
     pub counters: Counters,
-}
-
-// Why a call was turned down.
-pub enum Refusal {
-    Configuration,
-    Period,
-    NoEndlessEm,
-    Interval,
-    Lists,
-    Phase,
-    Burst,
-    BurstRuns,
-}
-
-// What the table of refusals makes of a call.
-pub enum Ruling {
-    Allowed,
-    TurnedDown(Refusal),
 }
 
 // A call's answer: the burst pulses cancelled, or why it was turned down.
@@ -121,21 +75,8 @@ pub struct Ticked {
     pub tick: Tick,
 }
 
-// Phases read from seven lists: whether the lists are sound, and then the phases at the front of eight and how many.
-pub struct PhaseTable {
-    pub sound: bool,
-    pub phases: [Phase; 8],
-    pub count: u32,
-}
-
 // The counters after a front, and whether it gives a report.
 pub struct Count {
     pub counters: Counters,
     pub report: bool,
-}
-
-// A burst one tick on, and whether it is complete.
-pub struct Aged {
-    pub burst: Burst,
-    pub complete: bool,
 }

@@ -2,13 +2,11 @@
 ghost use mathlib.Core.Path.{_≡_};
 ghost use Rattle.line.specs.Lines.{freshLine, makeOf};
 use super::Answered;
-use super::Burst;
 use super::Counters;
 use super::Line;
-use super::Refusal;
 use super::Verdict;
-use super::phase_lists;
-use super::refusals;
+use burst::Burst;
+use descriptor::Refusal;
 use tariff::Tariff;
 
 impl Line {
@@ -39,7 +37,7 @@ impl Line {
     pub fn make(pulse: u32, gap: u32, clock: u32) -> Answered
         ensures { λ r. ⌜ r ≡ makeOf pulse gap clock ⌝ }
     {
-        if !refusals::sound_configuration(pulse, gap) {
+        if !descriptor::sound_configuration(pulse, gap) {
             return Answered {
                 line: Line::fresh(0, 0, 0),
                 verdict: Verdict::Refused(Refusal::Configuration),

@@ -4,8 +4,8 @@ ghost use Rattle.line.specs.Lines.{periodOf, noPeriodOf, auditOf};
 use super::Answered;
 use super::Audited;
 use super::Line;
-use super::Refusal;
 use super::Verdict;
+use descriptor::Refusal;
 
 impl Line {
     // Sets the report period; pcslr stays.

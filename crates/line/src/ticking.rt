@@ -1,15 +1,14 @@
 // The ticks of a line, and whether a pulse is on.
 ghost use mathlib.Core.Path.{_≡_};
-ghost use Rattle.line.specs.Answers.{frontAt};
-ghost use Rattle.line.specs.Lines.{toldBy, movedBy, tickWithFront, tickOf, ticksOf, onOf};
-use super::Aged;
-use super::Burst;
+ghost use Rattle.line.specs.Rules.{frontAt};
+ghost use Rattle.line.specs.Lines.{toldBy, movedBy, tickWithPulse, tickWithFront, tickOf, ticksOf, onOf};
 use super::Counters;
 use super::Front;
 use super::Line;
 use super::Tick;
 use super::Ticked;
-use super::bursting;
+use burst::Aged;
+use burst::Burst;
 use tariff::Slot;
 use tariff::Stepped;
 use tariff::Tariff;
@@ -52,33 +51,34 @@ impl Line {
         }
     }
 
-    // The line after a tick with this front, where t, b and since are the tariff, the burst and the ticks since the
+    // The line after a tick with a front, where t and b are the tariff and the burst one tick on, and `burst` is what the
+    // front leaves of b.
+    fn with_pulse(self, t: Stepped, b: Aged, burst: Burst, front: Front) -> Ticked
+        ensures { λ r. ⌜ r ≡ tickWithPulse self t b burst front ⌝ }
+    {
+        let tariff = t.tariff;
+        let counters = self.counters;
+        let count = counters.counted();
+        Ticked {
+            line: self.moved_by(0, tariff, burst, count.counters),
+            tick: told_by(t, b, front, count.report),
+        }
+    }
+
+    // The line after a tick with this front or none, where t, b and since are the tariff, the burst and the ticks since the
     // last front one tick on.
     fn with_front(self, t: Stepped, b: Aged, since: u32, front: Front) -> Ticked
         ensures { λ r. ⌜ r ≡ tickWithFront self t b since front ⌝ }
     {
         let tariff = t.tariff;
         let burst = b.burst;
-        let counters = self.counters;
         match front {
             Front::None => Ticked {
-                line: self.moved_by(since, tariff, burst, counters),
+                line: self.moved_by(since, tariff, burst, self.counters),
                 tick: told_by(t, b, front, false),
             },
-            Front::Tariff => {
-                let count = counters.counted();
-                Ticked {
-                    line: self.moved_by(0, tariff, burst, count.counters),
-                    tick: told_by(t, b, front, count.report),
-                }
-            }
-            Front::Burst => {
-                let count = counters.counted();
-                Ticked {
-                    line: self.moved_by(0, tariff, burst.begun(), count.counters),
-                    tick: told_by(t, b, front, count.report),
-                }
-            }
+            Front::Tariff => self.with_pulse(t, b, burst, front),
+            Front::Burst => self.with_pulse(t, b, burst.begun(), front),
         }
     }
 
@@ -91,7 +91,7 @@ impl Line {
         let phases = self.phases;
         let t = old_tariff.step(self.pulse, phases, self.count);
         let b = old_burst.aged(self.pulse);
-        let since = bursting::held_more(self.spacing, self.since);
+        let since = burst::held_more(self.spacing, self.since);
         let tariff = t.tariff;
         let burst = b.burst;
         let slot = t.slot;

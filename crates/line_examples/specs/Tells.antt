@@ -2,7 +2,7 @@
 use mathlib.Core.Bool.{Bool, true, false}
 use lib.Dec.{eqb}
 use Prim.Native.Nat.{ℕ}
-use Rattle.line.specs.Refusals.{numberOf}
+use Rattle.descriptor.specs.Refusals.{numberOf}
 use Rattle.line.specs.declared.Front.{Front}
 use Rattle.line.specs.declared.Front.the-variants.{None, Tariff, Burst}
 use Rattle.line.specs.declared.Verdict.{Verdict}

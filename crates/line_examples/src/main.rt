@@ -1,14 +1,14 @@
 // A call on a line, each step checked from the contracts alone: an em with an add-on charge of two pulses.
 ghost use mathlib.Core.Path.{_≡_};
+ghost use Rattle.phase_lists.specs.Lists.{noLists};
 ghost use Rattle.line.specs.Lines.{describeOf};
-ghost use Rattle.line.specs.Examples.{noLists};
 ghost use Rattle.line_examples.specs.Tells.{isTariff, accepts, refuses};
 use check::expect;
-use line::BurstPart;
+use descriptor::BurstPart;
+use descriptor::TariffPart;
 use line::Front;
 use line::Hook;
 use line::Line;
-use line::TariffPart;
 use line::Verdict;
 
 fn is_tariff(front: Front) -> bool

@@ -10,8 +10,16 @@ pub struct Input {
     pub came: bool,
 }
 
+// A line of the input, without its line feed: whether there is one, its first place, and the place after its last. A
+// line that is too long is empty.
+pub struct Span {
+    pub some: bool,
+    pub from: usize,
+    pub to: usize,
+}
+
 // The place of the first line feed from `from` on and before `to`, or `to` if there is none.
-pub(crate) fn line_feed(buf: &[u8], from: usize, to: usize) -> usize {
+fn line_feed(buf: &[u8], from: usize, to: usize) -> usize {
     let mut i = from;
     while i < to {
         if i >= buf.len() {
@@ -23,6 +31,18 @@ pub(crate) fn line_feed(buf: &[u8], from: usize, to: usize) -> usize {
         i += 1;
     }
     to
+}
+
+// The bytes of a line.
+pub(crate) fn text(buf: &[u8], line: Span) -> &[u8] {
+    let from = line.from;
+    let to = line.to;
+    if from <= to {
+        if to <= buf.len() {
+            return &buf[from..to];
+        }
+    }
+    &buf[0..0]
 }
 
 // Moves the bytes `start` to `end` to the front.
@@ -132,6 +152,63 @@ impl Input {
         }
     }
 
+    // Whether bytes are left at the end of the input: a last line without a line feed counts too.
+    fn is_last(self) -> bool {
+        if self.came {
+            false
+        } else if self.overlong {
+            true
+        } else {
+            self.start < self.end
+        }
+    }
+
+    // The line that ends at `stop`.
+    fn line_to(self, stop: usize, some: bool) -> Span {
+        if self.overlong {
+            return Span {
+                some,
+                from: stop,
+                to: stop,
+            };
+        }
+        Span {
+            some,
+            from: self.start,
+            to: stop,
+        }
+    }
+
+    // The next line that is read whole.
+    pub(crate) fn next(self, buf: &[u8]) -> Span {
+        let stop = line_feed(buf, self.start, self.end);
+        if stop < self.end {
+            return self.line_to(stop, true);
+        }
+        self.line_to(stop, self.is_last())
+    }
+
+    // Whether the input has ended and no line is left.
+    pub(crate) fn is_over(self, some: bool) -> bool {
+        if some {
+            false
+        } else if self.came {
+            false
+        } else {
+            true
+        }
+    }
+
+    // Past a line that ends at `stop`, and its line feed.
+    fn past(self, stop: usize) -> Input {
+        Input {
+            start: if stop < self.end { stop + 1 } else { self.end },
+            end: self.end,
+            overlong: false,
+            came: self.came,
+        }
+    }
+
     // A line that fills the buffer: blanks and leading zeros go, and what is left of a sound line is short. Any other
     // line is too long, and what was read of it is dropped.
     fn squeezed(self, buf: &mut [u8]) -> Input {
@@ -171,7 +248,7 @@ impl Input {
     }
 
     // After one more read.
-    pub(crate) fn more(self, buf: &mut [u8]) -> Input {
+    fn more(self, buf: &mut [u8]) -> Input {
         let room = self.with_room(buf);
         let got = read_once(buf, room.end);
         let size = buf.len();
@@ -189,5 +266,12 @@ impl Input {
             came: false,
             ..room
         }
+    }
+    // Past a line, or after one more read where there is none.
+    pub(crate) fn onward(self, buf: &mut [u8], line: Span) -> Input {
+        if line.some {
+            return self.past(line.to);
+        }
+        self.more(buf)
     }
 }

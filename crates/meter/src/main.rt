@@ -2,175 +2,64 @@
 mod gateway;
 mod input;
 mod output;
+mod phases;
+mod reader;
 
 use gateway::Gateway;
-use gateway::Reaction;
-use gateway::Reply;
 use input::Input;
-use line::Line;
+use input::Span;
+use printing::Answer;
+use reader::Reader;
 
-// A run of the program: the gateway, the input, and the bytes of output held back.
-struct Meter {
-    gateway: Gateway,
-    input: Input,
-    held: usize,
-    over: bool,
+// Reads the line of the script that stands at a span of the buffer, if there is one.
+fn read_line(reader: Reader, inp: &[u8], span: Span, made: bool) -> Reader {
+    if span.some {
+        return reader.read(input::text(inp, span), made);
+    }
+    reader
 }
 
-// A line after some ticks, and the bytes of output held back.
-struct Ran {
-    line: Line,
-    held: usize,
+// Obeys a line that was read. Where there is none, all output is written before more is read.
+fn react(gateway: Gateway, reader: Reader, some: bool, out: &mut [u8]) -> Gateway {
+    if some {
+        let command = reader.command;
+        let phases = reader.phases;
+        return gateway.obey(command, phases, out);
+    }
+    gateway.flushed(out)
 }
 
-// Ticks n times and puts what each tick tells.
-fn run(line: Line, n: u32, out: &mut [u8], held: usize) -> Ran {
-    let mut now = line;
-    let mut at = held;
-    let mut i: u32 = 0;
-    while i < n {
-        let t = now.tick();
-        now = t.line;
-        let told = t.tick;
-        let clock = now.clock;
-        let cpc = now.counters.cpc;
-        at = output::put_tick(out, at, clock, cpc, told);
-        i += 1;
+// At the end of the input, a descriptor whose phase lines are missing is bad.
+fn put_last(out: &mut [u8], held: usize, missing: u32) -> usize {
+    if missing == 0 {
+        return held;
     }
-    Ran {
-        line: now,
-        held: at,
-    }
+    output::put_answer(out, held, Answer::Bad)
 }
 
-// Puts what a line of the script gets.
-fn put_reply(reply: Reply, out: &mut [u8], held: usize) -> usize {
-    match reply {
-        Reply::Nothing => held,
-        Reply::Told(answer) => output::put_answer(out, held, answer),
-        Reply::Run(_) => held,
-    }
-}
-
-// Does what a line of the script asks for.
-fn react(m: Meter, reaction: Reaction, out: &mut [u8]) -> Meter {
-    let gateway = reaction.gateway;
-    let reply = reaction.reply;
-    match reply {
-        Reply::Run(n) => {
-            let line = gateway.line;
-            let ran = run(line, n, out, m.held);
-            let after = ran.line;
-            let next = gateway.with_line(after);
-            Meter {
-                gateway: next,
-                held: ran.held,
-                ..m
-            }
-        }
-        Reply::Nothing => Meter { gateway, ..m },
-        Reply::Told(answer) => {
-            let held = output::put_answer(out, m.held, answer);
-            Meter { gateway, held, ..m }
-        }
-    }
-}
-
-// The line of the script from `start` to `stop`, or the rest of one that was too long.
-fn take_line(m: Meter, inp: &[u8], start: usize, stop: usize, out: &mut [u8]) -> Meter {
-    let gateway = m.gateway;
-    if m.input.overlong {
-        let reaction = gateway.read_overlong();
-        return react(m, reaction, out);
-    }
-    if start <= stop {
-        if stop <= inp.len() {
-            let reaction = gateway.read(&inp[start..stop]);
-            return react(m, reaction, out);
-        }
-    }
-    m
-}
-
-// Writes all output, with the answer to a descriptor whose phase lines are missing.
-fn close(m: Meter, out: &mut [u8]) -> Meter {
-    let gateway = m.gateway;
-    let held = put_reply(gateway.end(), out, m.held);
-    output::flush(out, held);
-    Meter {
-        held: 0,
-        over: true,
-        ..m
-    }
-}
-
-// At the end of the input: a last line without a line feed counts too.
-fn finish(m: Meter, inp: &[u8], out: &mut [u8]) -> Meter {
-    let start = m.input.start;
-    let end = m.input.end;
-    if m.input.overlong {
-        return close(take_line(m, inp, start, end, out), out);
-    }
-    if start < end {
-        return close(take_line(m, inp, start, end, out), out);
-    }
-    close(m, out)
-}
-
-// One more read, before which all output is written; the end of the input where nothing comes.
-fn read_on(m: Meter, inp: &mut [u8], out: &mut [u8]) -> Meter {
-    output::flush(out, m.held);
-    let old = m.input;
-    let more = old.more(inp);
-    let next = Meter {
-        input: more,
-        held: 0,
-        ..m
-    };
-    if more.came {
-        next
-    } else {
-        finish(next, inp, out)
-    }
-}
-
-// One step: the next line that is read whole, or else one more read.
-fn step(m: Meter, inp: &mut [u8], out: &mut [u8]) -> Meter {
-    let start = m.input.start;
-    let end = m.input.end;
-    let stop = input::line_feed(inp, start, end);
-    if stop >= end {
-        return read_on(m, inp, out);
-    }
-    let rest = Input {
-        start: stop + 1,
-        end,
-        overlong: false,
-        came: true,
-    };
-    let next = take_line(m, inp, start, stop, out);
-    Meter {
-        input: rest,
-        ..next
-    }
+// Writes all output at the end of the input.
+fn close(out: &mut [u8], held: usize, missing: u32) {
+    let at = put_last(out, held, missing);
+    output::flush(out, at);
 }
 
 // Reads and obeys until the input ends. A proved loop has to end, and nothing says that the input does: the steps are
 // counted down from a number that no run uses up.
 fn serve(inp: &mut [u8], out: &mut [u8]) {
-    let mut m = Meter {
-        gateway: Gateway::new(),
-        input: Input::new(),
-        held: 0,
-        over: false,
-    };
+    let mut gateway = Gateway::new();
+    let mut reader = Reader::new();
+    let mut input = Input::new();
     let mut steps = u64::MAX;
     while steps > 0 {
-        if m.over {
+        steps -= 1;
+        let span = input.next(inp);
+        if input.is_over(span.some) {
+            close(out, gateway.held, reader.missing);
             return;
         }
-        m = step(m, inp, out);
-        steps -= 1;
+        reader = read_line(reader, inp, span, gateway.made);
+        gateway = react(gateway, reader, span.some, out);
+        input = input.onward(inp, span);
     }
 }
 

@@ -1,8 +1,8 @@
 // Standard output by way of a lent buffer, of which the bytes before `at` are held back.
 use libc::STDOUT_FILENO;
 use line::Tick;
-use script::Answer;
-use script::Written;
+use printing::Answer;
+use printing::Written;
 
 // Writes out what is held back.
 pub(crate) fn flush(buf: &[u8], at: usize) {
@@ -21,24 +21,24 @@ fn first(written: Written) -> usize {
 
 // Puts an answer; a full buffer is written out first.
 pub(crate) fn put_answer(buf: &mut [u8], at: usize, answer: Answer) -> usize {
-    let written = script::put_answer(buf, at, answer);
+    let written = printing::put_answer(buf, at, answer);
     match written {
         Written::Next(next) => next,
         Written::Full => {
             flush(buf, at);
-            first(script::put_answer(buf, 0, answer))
+            first(printing::put_answer(buf, 0, answer))
         }
     }
 }
 
 // Puts what a tick tells; a full buffer is written out first.
 pub(crate) fn put_tick(buf: &mut [u8], at: usize, clock: u32, cpc: u32, tick: Tick) -> usize {
-    let written = script::put_tick(buf, at, clock, cpc, tick);
+    let written = printing::put_tick(buf, at, clock, cpc, tick);
     match written {
         Written::Next(next) => next,
         Written::Full => {
             flush(buf, at);
-            first(script::put_tick(buf, 0, clock, cpc, tick))
+            first(printing::put_tick(buf, 0, clock, cpc, tick))
         }
     }
 }

@@ -9,9 +9,9 @@ use borrow.Author.Tests.{le-leb, lt-leb}
 use lib.Dec.{leb}
 use lib.ListN.{length, getD, drop}
 use lib.Seq.{drop-cons}
+use Rattle.script.specs.Numbers.{top, allDigits, valueAfter, numberOf}
 use Rattle.script.specs.declared.numbers.Number.{Number}
 use Rattle.script.specs.declared.numbers.Number.the-variants.{Value, None}
-use Rattle.script.specs.Numbers.{top, allDigits, valueAfter, numberOf}
 
 -- the number that goes on with the bytes l after the digits of the value v
 unfoldable pub numberAfter : ℕ → List ℕ → Number

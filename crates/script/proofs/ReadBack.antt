@@ -7,11 +7,11 @@ use native.Mathlib.Omega.{arith}
 use borrow.Author.Tests.{le-leb, ltb-true, ltb-false}
 use lib.Dec.{ltb}
 use lib.ListN.{length, length-append}
-use Rattle.script.specs.declared.numbers.Number.the-variants.{Value}
 use Rattle.script.specs.Numbers.{top, isDigit, allDigits, valueAfter, valueOf, numberOf}
-use Rattle.script.specs.Text.{digit, digitsIn, digitsOf}
+use Rattle.script.specs.declared.numbers.Number.the-variants.{Value}
+use Rattle.printing.specs.Text.{digit, digitsIn, digitsOf}
 use Rattle.script.proofs.NumberLaws.{numberAfter, from-zero}
-use Rattle.script.proofs.DigitLaws.{power}
+use Rattle.printing.proofs.DigitLaws.{power}
 
 -- the value of digits with one more
 value-snoc : (v : ℕ) (l : List ℕ) (b : ℕ) → valueAfter v (l ++ (b ∷ [])) ≡ 10 * valueAfter v l + (b - 48)

@@ -2,17 +2,19 @@
 use mathlib.Core.Bool.{Bool, true, false, cond, not}
 use mathlib.Core.Path.{_≡_, refl, sym, ap, _∙_}
 use mathlib.Core.List.{List, [], _∷_, _++_}
-use Prim.Native.Nat.{ℕ, zero, suc, _+_, _-_, _≤_, _<_}
+use Prim.Native.Nat.{ℕ, zero, suc, _+_, _-_, _/_, _%_, _≤_, _<_}
 use native.Mathlib.Numerals.{add-one}
 use native.Mathlib.Omega.{arith}
 use borrow.Author.Tests.{eq-eqb, ne-eqb}
-use lib.Dec.{eqb, eqb·zero-suc, eqb·suc-suc}
+use lib.Dec.{eqb, eqb·zero-suc, eqb·suc-zero, eqb·suc-suc}
 use lib.ListN.{length, getD, take, drop, length-append, length-drop}
 use lib.Seq.{take-at, drop-cons}
 use Rattle.script.specs.Words.{blank, onFirst, pieces, filled, wordsOf, same}
 use Rattle.script.specs.Readers.{parsed, word, noWord}
 use Rattle.script.specs.Told.{NextWord}
 use Rattle.script.specs.Runs.{endsRun, pastBlanks, pastWord, pastRun}
+use Rattle.printing.specs.Bytes.{unpacked}
+use Rattle.printing.proofs.PackedLaws.{unpack-more}
 
 -- the bytes before the first blank
 abbrev leading : List ℕ → List ℕ
@@ -74,25 +76,23 @@ run-ends blanks l i h e = rw (drop-cons l i 0 h, e)
 pub run-goes : (blanks : Bool) (l : List ℕ) (i : ℕ) → i < length l → endsRun blanks (getD l i 0) ≡ false → pastRun blanks (drop i l) ≡ pastRun blanks (drop (i + 1) l)
 run-goes blanks l i h e = rw (add-one, drop-cons l i 0 h, e)
 
-unlike : (t : Bool) {s : Bool} → s ≡ false → cond t s false ≡ false
-unlike true e = e
-unlike false e = refl
+module _ (w : List ℕ) (i : ℕ) (within : i < length w) where
+  -- where a byte is a packed word's first, the words are the same if they are so past it
+  pub same-on : (n : ℕ) → 0 < n → getD w i 0 ≡ n % 256 → same (drop i w) (unpacked n) ≡ same (drop (i + 1) w) (unpacked (n / 256))
+  same-on n some e = rw (add-one, drop-cons w i 0 within, unpack-more n some, eq-eqb _ _ e)
 
--- words of different lengths are not the same
-pub other-length : (w v : List ℕ) → (length w ≡ length v → ⊥) → same w v ≡ false
-other-length [] [] h = absurd (h refl)
-other-length [] (b ∷ v) h = refl
-other-length (a ∷ w) [] h = refl
-other-length (a ∷ w) (b ∷ v) h = unlike (eqb a b) (other-length w v (λ e. h (ap suc e)))
+  -- where it is not, the words are not the same
+  pub same-off : (n : ℕ) → 0 < n → (getD w i 0 ≡ n % 256 → ⊥) → same (drop i w) (unpacked n) ≡ false
+  same-off n some h = rw (drop-cons w i 0 within, unpack-more n some, ne-eqb _ _ h)
 
-module _ (w v : List ℕ) (i : ℕ) (in-w : i < length w) (in-v : i < length v) where
-  -- where two bytes agree, the words are the same if they are so past them
-  pub same-on : getD w i 0 ≡ getD v i 0 → same (drop i w) (drop i v) ≡ same (drop (i + 1) w) (drop (i + 1) v)
-  same-on e = rw (add-one, drop-cons w i 0 in-w, drop-cons v i 0 in-v, eq-eqb _ _ e)
+  -- nor are they where the packed word has ended
+  pub same-over : (n : ℕ) → n ≡ 0 → same (drop i w) (unpacked n) ≡ false
+  same-over n e = rw (e, drop-cons w i 0 within)
 
-  -- where they do not agree, the words are not the same
-  pub same-off : (getD w i 0 ≡ getD v i 0 → ⊥) → same (drop i w) (drop i v) ≡ false
-  same-off h = rw (drop-cons w i 0 in-w, drop-cons v i 0 in-v, ne-eqb _ _ h)
+-- no byte is left just where none is packed
+pub same-end : (n : ℕ) → same [] (unpacked n) ≡ eqb n 0
+same-end zero = refl
+same-end (suc n) = sym (eqb·suc-zero n)
 
 -- a word between the blanks and the next: its bytes, and the words after it
 pub next-word : (l : List ℕ) (at s e : ℕ) → s ≤ length l → e ≤ length l

@@ -3,18 +3,19 @@ use Prim.Native.Nat.{ℕ}
 use mathlib.Core.Bool.{cond}
 use mathlib.Core.List.{List, [], _∷_}
 use lib.Dec.{leb}
+use Rattle.descriptor.specs.declared.TariffPart.{TariffPart}
+use Rattle.descriptor.specs.declared.TariffPart.the-variants.{None as NoTariff, Keep as KeepTariff, Rate, Em, Phased}
+use Rattle.descriptor.specs.declared.BurstPart.{BurstPart}
+use Rattle.descriptor.specs.declared.BurstPart.the-variants.{None as NoBurst, Keep as KeepBurst, Start}
 use Rattle.line.specs.declared.Hook.the-variants.{Keep as KeepOn, Stop}
-use Rattle.line.specs.declared.TariffPart.{TariffPart}
-use Rattle.line.specs.declared.TariffPart.the-variants.{None as NoTariff, Keep as KeepTariff, Rate, Em, Phased}
-use Rattle.line.specs.declared.BurstPart.{BurstPart}
-use Rattle.line.specs.declared.BurstPart.the-variants.{None as NoBurst, Keep as KeepBurst, Start}
+use Rattle.script.specs.Words.{same, wordsOf}
+use Rattle.script.specs.Numbers.{numberOf}
+use Rattle.script.specs.Readers.{Reader, _>>=_, give, fail, word, valued, number, pair, choice, whole}
 use Rattle.script.specs.declared.Command.{Command}
 use Rattle.script.specs.declared.Command.the-variants.{Bad, Configure, Period, NoPeriod, Describe, OnHook, Run}
 use Rattle.script.specs.declared.PhaseLine.{PhaseLine}
 use Rattle.script.specs.declared.PhaseLine.the-variants.{Numbers, Bad as BadLine}
-use Rattle.script.specs.Words.{bytes, same, wordsOf}
-use Rattle.script.specs.Numbers.{numberOf}
-use Rattle.script.specs.Readers.{Reader, _>>=_, give, fail, word, valued, number, pair, choice, whole}
+use Rattle.printing.specs.Bytes.{bytes}
 
 -- gives a where n is at most the top of its kind
 abbrev pub upTo : {A : Type 0} → ℕ → ℕ → A → Reader A

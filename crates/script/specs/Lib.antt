@@ -5,6 +5,4 @@ pub mod Readers
 pub mod Runs
 pub mod Told
 pub mod Commands
-pub mod Text
-pub mod Buffer
 pub mod Examples

@@ -3,10 +3,11 @@ use Prim.Native.Nat.{ℕ}
 use Prim.Native.String.{String}
 use mathlib.Core.Bool.{Bool, true, false, cond}
 use mathlib.Core.List.{List, [], _∷_}
+use Rattle.script.specs.Words.{same}
+use Rattle.script.specs.Numbers.{numberOf}
 use Rattle.script.specs.declared.numbers.Number.{Number}
 use Rattle.script.specs.declared.numbers.Number.the-variants.{Value, None}
-use Rattle.script.specs.Words.{bytes, same}
-use Rattle.script.specs.Numbers.{numberOf}
+use Rattle.printing.specs.Bytes.{bytes}
 
 -- what was read and the words that are left, or nothing
 pub data Parsed (A : Type 0) : Type 0 where

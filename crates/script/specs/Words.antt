@@ -1,15 +1,8 @@
 -- The words of a line: what stands between its blanks.
 use Prim.Native.Nat.{ℕ}
-use Prim.Native.Char.{code}
-use Prim.Native.String.{String, [] as «end», _∷_ as _then_}
 use mathlib.Core.Bool.{Bool, true, false, cond}
 use mathlib.Core.List.{List, [], _∷_}
 use lib.Dec.{eqb}
-
--- the bytes of a text
-abbrev pub bytes : String → List ℕ
-bytes «end» = []
-bytes (c then s) = code c ∷ bytes s
 
 -- the byte that separates words
 abbrev pub blank : ℕ

@@ -1,147 +1,150 @@
 // The commands.
 ghost use mathlib.Core.Path.{_≡_};
+ghost use mathlib.Core.List.{[], _∷_};
 ghost use lib.ListN.{drop};
 ghost use Rattle.script.specs.Words.{wordsOf};
-ghost use Rattle.script.specs.Told.{commandTold};
-ghost use Rattle.script.specs.Commands.{configure, period, describe, hook, run, command as Commands·command, commandOf};
+ghost use Rattle.script.specs.Readers.{whole};
+ghost use Rattle.script.specs.Commands.{configure, period, describe, hook, run, commandOf};
+ghost use Rattle.script.specs.declared.Command.the-variants.{Bad};
 use super::Command;
-use super::numbers::NextNumber;
-use super::numbers::NextPair;
+use super::keywords::CFG;
+use super::keywords::HOOK;
+use super::keywords::KEEP;
+use super::keywords::OFF;
+use super::keywords::RP;
+use super::keywords::RUN;
+use super::keywords::SIG;
+use super::keywords::STOP;
 use super::numbers::Number;
 use super::numbers::next_number;
-use super::numbers::next_pair;
 use super::numbers::number_in;
-use super::parts::NextBurst;
-use super::parts::NextTariff;
+use super::numbers::up_to;
 use super::parts::next_burst;
 use super::parts::next_tariff;
+use super::words::ended;
 use super::words::is_word;
+use super::words::last_word;
 use super::words::next_word;
-use super::words::no_word;
 use line::Hook;
 
-// A command that was read, and the place after it.
-pub(crate) enum NextCommand {
-    Read(Command, usize),
-    None,
-}
-
 // Reads what follows `cfg`: D, G and the clock.
-fn next_configure(line: &[u8], at: usize) -> NextCommand
-    ensures { λ r. ⌜ commandTold (now (line .entry)) r ≡ configure (wordsOf (drop at (now (line .entry)))) ⌝ }
+fn read_configure(line: &[u8], at: usize) -> Command
+    ensures { λ r. ⌜ r ≡ whole Bad (configure (wordsOf (drop at (now (line .entry))))) ⌝ }
 {
-    let NextPair::Values(pulse, gap, at) = next_pair(line, at) else {
-        return NextCommand::None;
-    };
-    let NextNumber::Value(clock, at) = next_number(line, at) else {
-        return NextCommand::None;
-    };
-    NextCommand::Read(Command::Configure { pulse, gap, clock }, at)
+    let d = next_number(line, at);
+    let g = next_number(line, d.at);
+    let clock = next_number(line, g.at);
+    if ended(line, clock.at) {
+        Command::Configure {
+            pulse: d.value,
+            gap: g.value,
+            clock: clock.value,
+        }
+    } else {
+        Command::Bad
+    }
 }
 
-// Reads what follows `rp`: off, or N.
-fn next_period(line: &[u8], at: usize) -> NextCommand
-    ensures { λ r. ⌜ commandTold (now (line .entry)) r ≡ period (wordsOf (drop at (now (line .entry)))) ⌝ }
+// The command `rp` with a word: off, or N.
+fn period_of(word: &[u8]) -> Command
+    ensures { λ r. ⌜ r ≡ whole Bad (period (now (word .entry) ∷ [])) ⌝ }
 {
-    let word = next_word(line, at);
+    if is_word(word, OFF) {
+        return Command::NoPeriod;
+    }
+    let n = number_in(word);
+    match n {
+        Number::Value(rp) => Command::Period(rp),
+        Number::None => Command::Bad,
+    }
+}
+
+// Reads what follows `rp`.
+fn read_period(line: &[u8], at: usize) -> Command
+    ensures { λ r. ⌜ r ≡ whole Bad (period (wordsOf (drop at (now (line .entry))))) ⌝ }
+{
+    let word = last_word(line, at);
     let start = word.start;
     let end = word.end;
-    let name = &line[start..end];
-    if is_word(name, b"off") {
-        return NextCommand::Read(Command::NoPeriod, end);
-    }
-    let Number::Value(period) = number_in(name) else {
-        return NextCommand::None;
-    };
-    NextCommand::Read(Command::Period(period), end)
+    period_of(&line[start..end])
 }
 
 // Reads what follows `sig`: T and U.
-fn next_describe(line: &[u8], at: usize) -> NextCommand
-    ensures { λ r. ⌜ commandTold (now (line .entry)) r ≡ describe (wordsOf (drop at (now (line .entry)))) ⌝ }
+fn read_describe(line: &[u8], at: usize) -> Command
+    ensures { λ r. ⌜ r ≡ whole Bad (describe (wordsOf (drop at (now (line .entry))))) ⌝ }
 {
-    let NextTariff::Part(tariff, phases, at) = next_tariff(line, at) else {
-        return NextCommand::None;
-    };
-    let NextBurst::Part(burst, at) = next_burst(line, at) else {
-        return NextCommand::None;
-    };
-    NextCommand::Read(
+    let t = next_tariff(line, at);
+    let u = next_burst(line, t.at);
+    let tariff = t.part;
+    let burst = u.part;
+    if ended(line, u.at) {
         Command::Describe {
             tariff,
-            phases,
+            phases: t.phases,
             burst,
-        },
-        at,
-    )
+        }
+    } else {
+        Command::Bad
+    }
 }
 
-// Reads what follows `hook`: keep, or stop.
-fn next_hook(line: &[u8], at: usize) -> NextCommand
-    ensures { λ r. ⌜ commandTold (now (line .entry)) r ≡ hook (wordsOf (drop at (now (line .entry)))) ⌝ }
+// The command `hook` with a word: keep, or stop.
+fn hook_of(word: &[u8]) -> Command
+    ensures { λ r. ⌜ r ≡ whole Bad (hook (now (word .entry) ∷ [])) ⌝ }
 {
-    let word = next_word(line, at);
+    if is_word(word, KEEP) {
+        return Command::OnHook(Hook::Keep);
+    }
+    if is_word(word, STOP) {
+        return Command::OnHook(Hook::Stop);
+    }
+    Command::Bad
+}
+
+// Reads what follows `hook`.
+fn read_hook(line: &[u8], at: usize) -> Command
+    ensures { λ r. ⌜ r ≡ whole Bad (hook (wordsOf (drop at (now (line .entry))))) ⌝ }
+{
+    let word = last_word(line, at);
     let start = word.start;
     let end = word.end;
-    let name = &line[start..end];
-    if is_word(name, b"keep") {
-        return NextCommand::Read(Command::OnHook(Hook::Keep), end);
-    }
-    if is_word(name, b"stop") {
-        return NextCommand::Read(Command::OnHook(Hook::Stop), end);
-    }
-    NextCommand::None
+    hook_of(&line[start..end])
 }
 
 // Reads what follows `run`: T.
-fn next_run(line: &[u8], at: usize) -> NextCommand
-    ensures { λ r. ⌜ commandTold (now (line .entry)) r ≡ run (wordsOf (drop at (now (line .entry)))) ⌝ }
+fn read_run(line: &[u8], at: usize) -> Command
+    ensures { λ r. ⌜ r ≡ whole Bad (run (wordsOf (drop at (now (line .entry))))) ⌝ }
 {
-    let NextNumber::Value(ticks, at) = next_number(line, at) else {
-        return NextCommand::None;
-    };
-    if ticks > 1000000 {
-        return NextCommand::None;
+    let t = next_number(line, at);
+    if ended(line, up_to(1000000, t)) {
+        Command::Run(t.value)
+    } else {
+        Command::Bad
     }
-    NextCommand::Read(Command::Run(ticks), at)
-}
-
-// Reads a command by its first word.
-fn next_command(line: &[u8]) -> NextCommand
-    ensures { λ r. ⌜ commandTold (now (line .entry)) r ≡ Commands·command (wordsOf (now (line .entry))) ⌝ }
-{
-    let word = next_word(line, 0);
-    let start = word.start;
-    let end = word.end;
-    let name = &line[start..end];
-    if is_word(name, b"cfg") {
-        return next_configure(line, end);
-    }
-    if is_word(name, b"rp") {
-        return next_period(line, end);
-    }
-    if is_word(name, b"sig") {
-        return next_describe(line, end);
-    }
-    if is_word(name, b"hook") {
-        return next_hook(line, end);
-    }
-    if is_word(name, b"run") {
-        return next_run(line, end);
-    }
-    NextCommand::None
 }
 
 // Reads the line of a command, without its line feed.
 pub fn read_command(line: &[u8]) -> Command
     ensures { λ r. ⌜ r ≡ commandOf (now (line .entry)) ⌝ }
 {
-    let NextCommand::Read(command, at) = next_command(line) else {
-        return Command::Bad;
-    };
-    if no_word(line, at) {
-        command
-    } else {
-        Command::Bad
+    let word = next_word(line, 0);
+    let start = word.start;
+    let end = word.end;
+    let name = &line[start..end];
+    if is_word(name, CFG) {
+        return read_configure(line, end);
     }
+    if is_word(name, RP) {
+        return read_period(line, end);
+    }
+    if is_word(name, SIG) {
+        return read_describe(line, end);
+    }
+    if is_word(name, HOOK) {
+        return read_hook(line, end);
+    }
+    if is_word(name, RUN) {
+        return read_run(line, end);
+    }
+    Command::Bad
 }

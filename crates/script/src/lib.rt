@@ -1,22 +1,18 @@
-// The language of the program `meter`: what each line of its input asks, and the text of its output.
-use line::BurstPart;
+// The language of the program `meter`: what each line of its input asks.
+use descriptor::BurstPart;
+use descriptor::TariffPart;
 use line::Hook;
-use line::TariffPart;
 use tariff::Phase;
 
-mod buffer;
 mod commands;
-mod decimal;
+mod keywords;
 mod numbers;
 mod parts;
 mod phases;
-mod text;
 mod words;
 
 pub use commands::read_command;
 pub use phases::read_phase;
-pub use text::put_answer;
-pub use text::put_tick;
 
 // What a line of input asks. `phases` is the number of phase lines that follow, 0 where the tariff is not phased.
 pub enum Command {
@@ -41,17 +37,4 @@ pub enum Command {
 pub enum PhaseLine {
     Numbers(Phase),
     Bad,
-}
-
-// What a command is answered: the burst pulses cancelled, the number of a refusal, or neither.
-pub enum Answer {
-    Ok(u32),
-    No(u32),
-    Bad,
-}
-
-// The place after a text that was put, or no room for it.
-pub enum Written {
-    Next(usize),
-    Full,
 }

@@ -1,10 +1,13 @@
 // Numbers, in decimal digits.
 ghost use mathlib.Core.Path.{_≡_};
+ghost use mathlib.Core.Bool.{cond};
+ghost use lib.Dec.{leb};
 ghost use lib.ListN.{drop};
 ghost use Rattle.script.specs.Words.{wordsOf};
 ghost use Rattle.script.specs.Numbers.{numberOf};
-ghost use Rattle.script.specs.Readers.{number as Readers·number, pair};
-ghost use Rattle.script.specs.Told.{numberTold, pairTold};
+ghost use Rattle.script.specs.Readers.{number};
+ghost use Rattle.script.specs.Told.{lost, Read};
+use super::words::LOST;
 use super::words::next_word;
 
 // What a word is as a number.
@@ -13,16 +16,10 @@ pub(crate) enum Number {
     None,
 }
 
-// A number that was read, and the place after it.
-pub(crate) enum NextNumber {
-    Value(u32, usize),
-    None,
-}
-
-// Two numbers that were read, and the place after them.
-pub(crate) enum NextPair {
-    Values(u32, u32, usize),
-    None,
+// A number that was read, and the place after it, or no number and the place `LOST`.
+pub(crate) struct NextNumber {
+    pub value: u32,
+    pub at: usize,
 }
 
 // The number that a word is.
@@ -53,27 +50,21 @@ pub(crate) fn number_in(word: &[u8]) -> Number
 
 // Reads a number from `at` on.
 pub(crate) fn next_number(line: &[u8], at: usize) -> NextNumber
-    ensures { λ r. ⌜ numberTold (now (line .entry)) r ≡ Readers·number (wordsOf (drop at (now (line .entry)))) ⌝ }
+    ensures { λ r. ⌜ Read (now (line .entry)) (r .value) (r .at) (number (wordsOf (drop at (now (line .entry))))) ⌝ }
 {
     let word = next_word(line, at);
     let start = word.start;
     let end = word.end;
-    let number = number_in(&line[start..end]);
-    match number {
-        Number::Value(value) => NextNumber::Value(value, end),
-        Number::None => NextNumber::None,
+    let found = number_in(&line[start..end]);
+    match found {
+        Number::Value(value) => NextNumber { value, at: end },
+        Number::None => NextNumber { value: 0, at: LOST },
     }
 }
 
-// Reads two numbers from `at` on.
-pub(crate) fn next_pair(line: &[u8], at: usize) -> NextPair
-    ensures { λ r. ⌜ pairTold (now (line .entry)) r ≡ pair (wordsOf (drop at (now (line .entry)))) ⌝ }
+// The place after a number that is not above a top.
+pub(crate) fn up_to(top: u32, n: NextNumber) -> usize
+    ensures { λ r. ⌜ r ≡ cond (leb (n .value) top) (n .at) lost ⌝ }
 {
-    let NextNumber::Value(first, at) = next_number(line, at) else {
-        return NextPair::None;
-    };
-    let NextNumber::Value(second, at) = next_number(line, at) else {
-        return NextPair::None;
-    };
-    NextPair::Values(first, second, at)
+    if n.value > top { LOST } else { n.at }
 }

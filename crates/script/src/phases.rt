@@ -2,38 +2,30 @@
 ghost use mathlib.Core.Path.{_≡_};
 ghost use Rattle.script.specs.Commands.{phaseOf};
 use super::PhaseLine;
-use super::numbers::NextNumber;
-use super::numbers::NextPair;
 use super::numbers::next_number;
-use super::numbers::next_pair;
-use super::words::no_word;
+use super::words::ended;
 use tariff::Phase;
 
 // Reads the line of a phase: seven numbers, and nothing else.
 pub fn read_phase(line: &[u8]) -> PhaseLine
     ensures { λ r. ⌜ r ≡ phaseOf (now (line .entry)) ⌝ }
 {
-    let NextNumber::Value(pri, at) = next_number(line, 0) else {
-        return PhaseLine::Bad;
-    };
-    let NextPair::Values(pcx, repx, at) = next_pair(line, at) else {
-        return PhaseLine::Bad;
-    };
-    let NextPair::Values(pcn, repn, at) = next_pair(line, at) else {
-        return PhaseLine::Bad;
-    };
-    let NextPair::Values(ci, pd, at) = next_pair(line, at) else {
-        return PhaseLine::Bad;
-    };
-    if no_word(line, at) {
+    let pri = next_number(line, 0);
+    let pcx = next_number(line, pri.at);
+    let repx = next_number(line, pcx.at);
+    let pcn = next_number(line, repx.at);
+    let repn = next_number(line, pcn.at);
+    let ci = next_number(line, repn.at);
+    let pd = next_number(line, ci.at);
+    if ended(line, pd.at) {
         PhaseLine::Numbers(Phase {
-            pri,
-            pcx,
-            repx,
-            pcn,
-            repn,
-            ci,
-            pd,
+            pri: pri.value,
+            pcx: pcx.value,
+            repx: repx.value,
+            pcn: pcn.value,
+            repn: repn.value,
+            ci: ci.value,
+            pd: pd.value,
         })
     } else {
         PhaseLine::Bad

@@ -1,35 +1,7 @@
 -- The files of this folder, lowest first.
-pub mod Any
-pub mod Order
-pub mod From
-pub mod Ahead
-pub mod Agree
-pub mod Endless
-pub mod Counted
-pub mod PhasedList
-pub mod PhasedEntry
-pub mod PhasedSound
-pub mod PhasedInterval
-pub mod PhasedSlots
-pub mod PhasedRoom
-pub mod PhasedAfter
-pub mod PhasedRest
-pub mod PhasedKept
-pub mod PhasedEnds
-pub mod Phased
-pub mod Count
-pub mod PhasePulses
-pub mod Step
-pub mod Due
-pub mod Wait
-pub mod Tick
-pub mod Start
-pub mod Fresh
-pub mod Rate
-pub mod Coupling
-pub mod Apart
-pub mod Laws
-pub mod Room
-pub mod Product
 pub mod Negated
-pub mod SoundFrom
+pub mod Both
+pub mod PhasedList
+mod SoundFrom
+mod OtherKind
+mod Product

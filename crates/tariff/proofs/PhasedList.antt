@@ -8,7 +8,10 @@ use borrow.Author.Tests.{lt-ltb}
 use lib.ListN.{take, drop, length, getD, length-take, drop-of-length-le}
 use Rattle.tariff.specs.Steps.{phaseAt, noPhase}
 use Rattle.tariff.specs.declared.Phase.{Phase}
-use Rattle.tariff.proofs.Ahead.{after}
+
+-- the phases after phase i, of the first n
+abbrev pub after : List Phase → ℕ → ℕ → List Phase
+after a n i = drop (suc i) (take n a)
 
 drop-take : (a : List Phase) (n i : ℕ) → i < n → n ≤ length a → drop i (take n a) ≡ getD a i noPhase ∷ drop (suc i) (take n a)
 drop-take [] n i h w = absurd (omega arith)

@@ -1,41 +1,40 @@
 -- Whether the phases from phase i on are sound, by phase i and those after it.
-use mathlib.Core.Path.{_≡_, refl}
-use mathlib.Core.Bool.{true, false}
-use mathlib.Core.List.{List, [], _∷_}
+use mathlib.Core.Path.{_≡_}
+use mathlib.Core.Bool.{Bool, true, false, not, _&&_, _||_, and-assoc, or-true, or-false}
+use mathlib.Core.List.{List}
 use Prim.Native.Nat.{ℕ, _+_, _≤_, _<_}
 use native.Mathlib.Numerals.{add-one}
 use native.Mathlib.Omega.{arith}
-use borrow.Author.Tests.{lt-ltb, eq-eqb, ne-eqb, ltb-true, ltb-false}
+use borrow.Author.Tests.{not-true, not-false, eq-eqb, ne-eqb, ltb-true, ltb-false}
 use borrow.Table.Steps.{cases}
 use lib.Dec.{ltb, eqb}
 use lib.ListN.{take, drop, length}
 use Rattle.tariff.specs.Rules.{soundPhase, soundPhases, endsBefore}
 use Rattle.tariff.specs.Steps.{phaseAt}
 use Rattle.tariff.specs.declared.Phase.{Phase}
-use Rattle.tariff.proofs.Ahead.{after}
-use Rattle.tariff.proofs.PhasedList.{phase-split, after-split, after-last}
-
-ends : (p : Phase) (ps : List Phase) → (p .pd ≡ 0 → ⊥) → endsBefore p ps ≡ true
-ends p [] some = refl
-ends p (q ∷ ps) some = lt-ltb 0 (p .pd) (omega (arith, some))
+use Rattle.tariff.proofs.PhasedList.{after, phase-split, after-split, after-last}
 
 module _ (S : ℕ) (a : List Phase) (n i : ℕ) (few : i < n) (eight : n ≤ 8) (whole : n ≤ length a) where
-  pub unsound-here : soundPhase S (phaseAt a i) ≡ false → soundPhases S (drop i (take n a)) ≡ false
-  unfolding soundPhases
-  unsound-here bad = rw (phase-split a n i few eight whole, bad)
+  -- phase i is the last, or it ends
+  ends : (ltb 0 (phaseAt a i .pd) || eqb (i + 1) n) ≡ endsBefore (phaseAt a i) (after a n i)
+  ends =
+      cases (ltb (i + 1) n)
+      (λ t. let more = ltb-true (i + 1) n t in rw (after-split a n i more eight whole, ne-eqb (i + 1) n (λ e. omega arith)) (or-false (ltb 0 (phaseAt a i .pd))))
+      (λ t. let last = ltb-false (i + 1) n t in rw (after-last a n i last, eq-eqb (i + 1) n (omega arith)) (or-true (ltb 0 (phaseAt a i .pd))))
 
-  -- an endless phase has to be the last
-  pub endless-here : soundPhase S (phaseAt a i) ≡ true → phaseAt a i .pd ≡ 0
-      → soundPhases S (drop i (take n a)) ≡ eqb (i + 1) n
-  unfolding soundPhases
-  endless-here good endless =
-      rw (phase-split a n i few eight whole, good)
-      (cases (ltb (i + 1) n)
-      (λ t. let more = ltb-true (i + 1) n t in rw (after-split a n i more eight whole, endless, ne-eqb (i + 1) n (λ e. omega arith)))
-      (λ t. let last = ltb-false (i + 1) n t in rw (after-last a n i last, eq-eqb (i + 1) n (omega arith))))
+  -- the code's test of phase i, which is p
+  abbrev pub test : Phase → Bool → Bool
+  test p sound = sound && (ltb 0 (p .pd) || eqb (i + 1) n)
 
-  pub sound-after : soundPhase S (phaseAt a i) ≡ true → (phaseAt a i .pd ≡ 0 → ⊥)
-      → soundPhases S (drop i (take n a)) ≡ soundPhases S (drop (i + 1) (take n a))
+  split : (p : Phase) (sound : Bool) → p ≡ phaseAt a i → sound ≡ soundPhase S p
+      → soundPhases S (drop i (take n a)) ≡ (test p sound && soundPhases S (drop (i + 1) (take n a)))
   unfolding soundPhases
-  sound-after good some =
-      rw (phase-split a n i few eight whole, good, ends (phaseAt a i) (after a n i) some, add-one i)
+  split p sound same told = rw (told, same, phase-split a n i few eight whole, ends, add-one i, and-assoc)
+
+  pub unsound-here : (p : Phase) (sound : Bool) → p ≡ phaseAt a i → sound ≡ soundPhase S p
+      → not (test p sound) ≡ true → soundPhases S (drop i (take n a)) ≡ false
+  unsound-here p sound same told t = rw (split p sound same told, not-true (test p sound) t)
+
+  pub sound-after : (p : Phase) (sound : Bool) → p ≡ phaseAt a i → sound ≡ soundPhase S p
+      → not (test p sound) ≡ false → soundPhases S (drop i (take n a)) ≡ soundPhases S (drop (i + 1) (take n a))
+  sound-after p sound same told t = rw (split p sound same told, not-false (test p sound) t)

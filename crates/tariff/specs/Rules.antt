@@ -18,15 +18,21 @@ distanceOf (suc c) P = P / suc c
 unfoldable pub soundEm : ℕ → ℕ → ℕ → Bool
 soundEm S C P = leb C 65535 && (leb P 86400000 && leb (2 * S) (distanceOf C P))
 
--- a phase by itself: its interval has room for its slots, and so has a short last interval
-unfoldable pub soundPhase : ℕ → Phase → Bool
-soundPhase S p =
+-- the numbers of a phase, each within its ends
+abbrev pub soundNumbers : ℕ → Phase → Bool
+soundNumbers S p =
     within (2 * S) 86400000 (p .pri)
     && (leb (p .pcn) (p .pcx) && (leb (p .pcx) 65535
     && (within 1 100 (p .repx + p .repn)
-    && (within 1 86400 (p .ci) && (leb (p .pd) 86400000
-    && (leb (max 1 (p .pcx) * p .pri) (1000 * p .ci)
-    && (eqb (p .pd % p .ci) 0 || leb (max 1 (p .pcx) * p .pri) (1000 * (p .pd % p .ci)))))))))
+    && (within 1 86400 (p .ci) && leb (p .pd) 86400000))))
+
+-- so many seconds have room for the slots of an interval of pcx pulses, or for its empty slot
+abbrev pub fitsIn : Phase → ℕ → Bool
+fitsIn p seconds = leb (max 1 (p .pcx) * p .pri) (1000 * seconds)
+
+-- a phase by itself: its interval has room for its slots, and so has a short last interval
+unfoldable pub soundPhase : ℕ → Phase → Bool
+soundPhase S p = soundNumbers S p && (fitsIn p (p .ci) && (eqb (p .pd % p .ci) 0 || fitsIn p (p .pd % p .ci)))
 
 -- pd = 0 only last
 abbrev pub endsBefore : Phase → List Phase → Bool

@@ -1,8 +1,6 @@
 // The tariff after a slot.
 ghost use mathlib.Core.Path.{_≡_};
-ghost use mathlib.Core.Bool.{_||_};
-ghost use Prim.Native.Nat.{_<_};
-ghost use lib.Dec.{eqb, ltb};
+ghost use Prim.Native.Nat.{_-_, _*_, _<_};
 ghost use Rattle.tariff.specs.Steps.{distanceAfter, afterCounted, afterPhase, afterInterval, afterPhased};
 use super::Phase;
 use super::Tariff;
@@ -40,9 +38,10 @@ fn after_phase(phases: [Phase; 8], count: u32, i: u32, wait: u64) -> Tariff
     ensures { λ r. ⌜ r ≡ afterPhase phases count i wait ⌝ }
 {
     if i as u64 + 1 < count as u64 {
-        let p = phases::phase_at(phases, i + 1);
+        let next = i + 1;
+        let p = phases::phase_at(phases, next);
         Tariff::Phased {
-            phase: i + 1,
+            phase: next,
             entry: 0,
             left: p.pd,
             pulse: 0,
@@ -53,11 +52,13 @@ fn after_phase(phases: [Phase; 8], count: u32, i: u32, wait: u64) -> Tariff
     }
 }
 
-// Whether a phase goes on after an interval of ci seconds, at whose start `left` seconds were left, 0 for no end.
-fn goes_on(left: u32, ci: u32) -> bool
-    ensures { λ r. ⌜ r ≡ (eqb left 0 || ltb ci left) ⌝ }
+// The ticks that are left of so many seconds from an interval's start at slot j, where slots are `pri` apart.
+fn ticks_left(seconds: u32, j: u32, pri: u32) -> u64
+    ensures { λ r. ⌜ r ≡ 1000 * seconds - j * pri ⌝ }
 {
-    if left == 0 { true } else { ci < left }
+    let end = 1000 * seconds as u64;
+    let passed = numbers::times(j, pri);
+    if end < passed { 0 } else { end - passed }
 }
 
 // After slot j, the last of an interval of phase i, which is p: the next interval of the phase, if there is one.
@@ -72,17 +73,17 @@ fn after_interval(
 ) -> Tariff
     ensures { λ r. ⌜ r ≡ afterInterval phases count i entry left j p ⌝ }
 {
-    let passed = numbers::times(j, p.pri);
-    if goes_on(left, p.ci) {
+    // An endless phase goes on, and so does one with seconds left after this interval.
+    if (left == 0) | (p.ci < left) {
         Tariff::Phased {
             phase: i,
             entry: p.next_entry(entry),
-            left: numbers::minus(left as u64, p.ci as u64) as u32,
+            left: numbers::minus(left, p.ci),
             pulse: 0,
-            wait: numbers::minus(1000 * p.ci as u64, passed),
+            wait: ticks_left(p.ci, j, p.pri),
         }
     } else {
-        after_phase(phases, count, i, numbers::minus(1000 * left as u64, passed))
+        after_phase(phases, count, i, ticks_left(left, j, p.pri))
     }
 }
 

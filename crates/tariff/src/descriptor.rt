@@ -43,23 +43,10 @@ impl Tariff {
     pub fn rate(self, interval: u32) -> Tariff
         ensures { λ r. ⌜ r ≡ rateOf interval self ⌝ }
     {
-        match self {
-            Tariff::Idle => self,
-            Tariff::Endless { interval: _, wait } => Tariff::Endless { interval, wait },
-            Tariff::Counted {
-                count: _,
-                period: _,
-                next: _,
-                wait: _,
-            } => self,
-            Tariff::Phased {
-                phase: _,
-                entry: _,
-                left: _,
-                pulse: _,
-                wait: _,
-            } => self,
-            Tariff::Ending { wait: _ } => self,
+        if let Tariff::Endless { interval: _, wait } = self {
+            Tariff::Endless { interval, wait }
+        } else {
+            self
         }
     }
 
@@ -67,26 +54,13 @@ impl Tariff {
     pub fn is_endless(self) -> bool
         ensures { λ r. ⌜ r ≡ isEndless self ⌝ }
     {
-        match self {
-            Tariff::Idle => false,
-            Tariff::Endless {
-                interval: _,
-                wait: _,
-            } => true,
-            Tariff::Counted {
-                count: _,
-                period: _,
-                next: _,
-                wait: _,
-            } => false,
-            Tariff::Phased {
-                phase: _,
-                entry: _,
-                left: _,
-                pulse: _,
-                wait: _,
-            } => false,
-            Tariff::Ending { wait: _ } => false,
+        if let Tariff::Endless {
+            interval: _,
+            wait: _,
+        } = self {
+            true
+        } else {
+            false
         }
     }
 }

@@ -6,8 +6,6 @@ mod phases;
 mod rules;
 mod steps;
 
-pub use phases::phase_at;
-pub use rules::is_within;
 pub use rules::sound_em;
 pub use rules::sound_phases;
 

@@ -3,7 +3,7 @@ ghost use mathlib.Core.Path.{_≡_};
 ghost use Prim.Native.Nat.{_-_, _*_, min};
 
 // a − b, or 0 where b is the larger.
-pub(crate) fn minus(a: u64, b: u64) -> u64
+pub(crate) fn minus(a: u32, b: u32) -> u32
     ensures { λ r. ⌜ r ≡ a - b ⌝ }
 {
     if a < b { 0 } else { a - b }

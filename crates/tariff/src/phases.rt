@@ -5,7 +5,7 @@ use super::Phase;
 use pulse_map::Element;
 
 // The phase at a place of the array; past its end a phase of no use.
-pub fn phase_at(phases: [Phase; 8], i: u32) -> Phase
+pub(crate) fn phase_at(phases: [Phase; 8], i: u32) -> Phase
     ensures { λ r. ⌜ r ≡ phaseAt phases i ⌝ }
 {
     if i < 8 {
@@ -26,7 +26,7 @@ pub fn phase_at(phases: [Phase; 8], i: u32) -> Phase
 
 impl Phase {
     // The pulses of a charge interval by its map entry; none where the map has no such entry.
-    pub fn pulses_at(self, entry: u64) -> u32
+    pub(crate) fn pulses_at(self, entry: u64) -> u32
         ensures { λ r. ⌜ r ≡ pulsesAt self entry ⌝ }
     {
         // No map has more than a hundred entries.
@@ -46,9 +46,10 @@ impl Phase {
         ensures { λ r. ⌜ r ≡ nextEntry self entry ⌝ }
     {
         let length = self.repx as u64 + self.repn as u64;
-        if entry >= length {
-            return 0;
+        if entry < length {
+            (entry + 1) % length
+        } else {
+            0
         }
-        if entry + 1 < length { entry + 1 } else { 0 }
     }
 }

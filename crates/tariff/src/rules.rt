@@ -1,87 +1,60 @@
 // The rules that an em, a rate and a phase keep on a line.
 ghost use mathlib.Core.Path.{_≡_};
-ghost use mathlib.Core.Bool.{_||_};
-ghost use Prim.Native.Nat.{_*_, _%_, _<_, max};
-ghost use lib.Dec.{eqb, leb};
 ghost use lib.ListN.{take};
-ghost use Rattle.tariff.specs.Rules.{within, soundEm, soundPhase, soundPhases};
+ghost use Rattle.tariff.specs.Rules.{
+  soundEm,
+  soundNumbers,
+  fitsIn,
+  soundPhase,
+  soundPhases,
+};
 use super::Phase;
 use super::numbers;
 use super::phases;
-
-// Whether n is within low to high.
-pub fn is_within(low: u64, high: u64, n: u64) -> bool
-    ensures { λ r. ⌜ r ≡ within low high n ⌝ }
-{
-    if n < low { false } else { n <= high }
-}
 
 // Whether an em keeps its rule; a rate is alike, with count 0.
 pub fn sound_em(spacing: u32, count: u32, period: u32) -> bool
     ensures { λ r. ⌜ r ≡ soundEm spacing count period ⌝ }
 {
-    if count > 65535 {
-        return false;
-    }
-    if period > 86400000 {
-        return false;
-    }
+    let small = (count <= 65535) & (period <= 86400000);
     let least = 2 * spacing as u64;
     if count == 0 {
-        least <= period as u64
+        small & (least <= period as u64)
     } else {
-        least <= period as u64 / count as u64
+        small & (least <= period as u64 / count as u64)
     }
 }
 
 impl Phase {
-    // Whether so many seconds have room for the slots of an interval of pcx pulses, or for its empty slot.
-    fn fits_in(self, seconds: u32) -> bool
-        ensures { λ r. ⌜ r ≡ leb (max 1 (self .pcx) * self .pri) (1000 * seconds) ⌝ }
+    // Whether the numbers of a phase are within their ends.
+    fn sound_numbers(self, spacing: u32) -> bool
+        ensures { λ r. ⌜ r ≡ soundNumbers spacing self ⌝ }
     {
-        let room = 1000 * seconds as u64;
-        if self.pcx == 0 {
-            self.pri as u64 <= room
-        } else {
-            numbers::times(self.pcx, self.pri) <= room
-        }
+        let entries = self.repx as u64 + self.repn as u64;
+        let distance = (2 * spacing as u64 <= self.pri as u64) & (self.pri <= 86400000);
+        let map = (1 <= entries) & (entries <= 100);
+        let seconds = ((1 <= self.ci) & (self.ci <= 86400)) & (self.pd <= 86400000);
+        distance & ((self.pcn <= self.pcx) & ((self.pcx <= 65535) & (map & seconds)))
     }
 
-    // Whether a short last interval has room for its slots, or there is none.
-    fn fits_last(self) -> bool
-        requires { ⌜ 0 < self .ci ⌝ }
-        ensures { λ r. ⌜ r ≡ (eqb (self .pd % self .ci) 0 || leb (max 1 (self .pcx) * self .pri) (1000 * (self .pd % self .ci))) ⌝ }
+    // Whether so many seconds have room for the slots of an interval of pcx pulses, or for its empty slot.
+    fn fits_in(self, seconds: u32) -> bool
+        ensures { λ r. ⌜ r ≡ fitsIn self seconds ⌝ }
     {
-        let rest = self.pd % self.ci;
-        if rest == 0 { true } else { self.fits_in(rest) }
+        let room = 1000 * seconds as u64;
+        (self.pri as u64 <= room) & (numbers::times(self.pcx, self.pri) <= room)
     }
 
     // Whether a phase by itself keeps its rules.
-    pub fn is_sound(self, spacing: u32) -> bool
+    pub(crate) fn is_sound(self, spacing: u32) -> bool
         ensures { λ r. ⌜ r ≡ soundPhase spacing self ⌝ }
     {
-        if !is_within(2 * spacing as u64, 86400000, self.pri as u64) {
-            return false;
+        if self.sound_numbers(spacing) {
+            let rest = self.pd % self.ci;
+            self.fits_in(self.ci) & ((rest == 0) | self.fits_in(rest))
+        } else {
+            false
         }
-        if self.pcn > self.pcx {
-            return false;
-        }
-        if self.pcx > 65535 {
-            return false;
-        }
-        if !is_within(1, 100, self.repx as u64 + self.repn as u64) {
-            return false;
-        }
-        if !is_within(1, 86400, self.ci as u64) {
-            return false;
-        }
-        if self.pd > 86400000 {
-            return false;
-        }
-        if !self.fits_in(self.ci) {
-            return false;
-        }
-        self.fits_last()
     }
 }
 
@@ -93,11 +66,9 @@ pub fn sound_phases(spacing: u32, phases: [Phase; 8], count: u32) -> bool
     let mut i: u32 = 0;
     while i < n {
         let p = phases::phase_at(phases, i);
-        if !p.is_sound(spacing) {
+        let ends = (0 < p.pd) | (i + 1 == n);
+        if !(p.is_sound(spacing) & ends) {
             return false;
-        }
-        if p.pd == 0 {
-            return i + 1 == n;
         }
         i += 1;
     }

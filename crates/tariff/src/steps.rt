@@ -128,23 +128,23 @@ impl Tariff {
     pub fn room(self, spacing: u32) -> bool
         ensures { λ r. ⌜ r ≡ roomOf spacing self ⌝ }
     {
+        let least = spacing as u64;
         match self {
-            Tariff::Idle => true,
-            Tariff::Endless { interval: _, wait } => spacing as u64 <= wait,
+            Tariff::Endless { interval: _, wait } => least <= wait,
             Tariff::Counted {
                 count: _,
                 period: _,
                 next: _,
                 wait,
-            } => spacing as u64 <= wait,
+            } => least <= wait,
             Tariff::Phased {
                 phase: _,
                 entry: _,
                 left: _,
                 pulse: _,
                 wait,
-            } => spacing as u64 <= wait,
-            Tariff::Ending { wait: _ } => true,
+            } => least <= wait,
+            _ => true,
         }
     }
 

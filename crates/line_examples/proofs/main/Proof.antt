@@ -4,11 +4,12 @@ use mathlib.Core.Bool.{true}
 use borrow.Author.Needs.{needs}
 use Rattle.tariff.specs.Rules.{distanceOf, soundEm}
 use Rattle.tariff.specs.Steps.{emOf, stepOf}
-use Rattle.line.specs.Refusals.{ruling}
-use Rattle.line.specs.Lines.{freshLine, makeOf, tariffChanged, burstChanged, describeOf, hookOf, agedOf, readyOf, countOf, tickOf}
-use Rattle.line.specs.Examples.{noLists}
-use Rattle.line.specs.declared.TariffPart.the-variants.{Em}
-use Rattle.line.specs.declared.BurstPart.the-variants.{Keep, Start}
+use Rattle.phase_lists.specs.Lists.{noLists}
+use Rattle.descriptor.specs.Refusals.{ruling}
+use Rattle.descriptor.specs.declared.TariffPart.the-variants.{Em}
+use Rattle.descriptor.specs.declared.BurstPart.the-variants.{Keep, Start}
+use Rattle.burst.specs.Bursts.{agedOf, readyOf}
+use Rattle.line.specs.Lines.{freshLine, makeOf, tariffChanged, burstChanged, describeOf, hookOf, countOf, tickOf}
 use Rattle.line.specs.declared.Hook.the-variants.{Stop}
 use Rattle.line.specs.declared.Answered.{Answered}
 use Rattle.line.specs.declared.Ticked.{Ticked}

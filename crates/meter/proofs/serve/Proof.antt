@@ -1,16 +1,15 @@
 -- `meter::serve` ends: its steps are counted down, and the buffers keep their lengths.
-use mathlib.Core.Path.{_≡_}
-use Prim.Native.Nat.{_-_}
+use mathlib.Core.Path.{_≡_, _∙_}
 use borrow.Author.Needs.{needs}
 use lib.ListN.{length}
 use Rattle.meter.proofs.serve.Statement.{statement}
 use Rattle.meter.proofs.serve.Tie as tie
 
 abbrev Inv-loop : tie.InvT-loop
-Inv-loop inp₀ out₀ m₀ steps₀ inp out m steps = (length inp ≡ length inp₀) × (length out ≡ length out₀)
+Inv-loop inp₀ out₀ gateway₀ reader₀ input₀ steps₀ inp out gateway reader input steps = (length inp ≡ length inp₀) × (length out ≡ length out₀)
 
 abbrev μ-loop : tie.MeasureT-loop
-μ-loop inp₀ out₀ m₀ steps₀ inp out m steps = steps
+μ-loop inp₀ out₀ gateway₀ reader₀ input₀ steps₀ inp out gateway reader input steps = steps
 
 new-requires : tie.Need-new-requires Inv-loop μ-loop
 new-requires c κs = search needs
@@ -18,8 +17,23 @@ new-requires c κs = search needs
 new-requires-2 : tie.Need-new-requires-2 Inv-loop μ-loop
 new-requires-2 c κs = search needs
 
+new-requires-3 : tie.Need-new-requires-3 Inv-loop μ-loop
+new-requires-3 c κs = search needs
+
 loop-holds : tie.Need-loop-holds Inv-loop μ-loop
 loop-holds c = search needs
+
+sub-steps : tie.Need-sub-steps Inv-loop μ-loop
+sub-steps c = search needs
+
+next-requires : tie.Need-next-requires Inv-loop μ-loop
+next-requires c κs = search needs
+
+is-over-requires : tie.Need-is-over-requires Inv-loop μ-loop
+is-over-requires c κs = search needs
+
+close-requires : tie.Need-close-requires Inv-loop μ-loop
+close-requires c κs = search needs
 
 same-length : tie.Need-same-length Inv-loop μ-loop
 same-length c = search needs
@@ -30,17 +44,24 @@ same-length-2 c = search needs
 returns : tie.Need-returns Inv-loop μ-loop
 returns c = search needs
 
-step-requires : tie.Need-step-requires Inv-loop μ-loop
-step-requires c κs = search needs
+read-line-requires : tie.Need-read-line-requires Inv-loop μ-loop
+read-line-requires c κs = search needs
 
-sub-steps : tie.Need-sub-steps Inv-loop μ-loop
-sub-steps c = search needs
+react-requires : tie.Need-react-requires Inv-loop μ-loop
+react-requires c κs = search needs
+
+onward-requires : tie.Need-onward-requires Inv-loop μ-loop
+onward-requires c κs = search needs
 
 loop-less : tie.Need-loop-less Inv-loop μ-loop
 loop-less c = search needs
 
 loop-again : tie.Need-loop-again Inv-loop μ-loop
-loop-again c = search needs
+loop-again c =
+    let read = c .before in
+    let told = read .before .before .before .before in
+    let l = told .before .before .before .before .before .before .before .before .before .before .loop in
+    (read .inp .given ∙ l .inv .0, told .out2 .given ∙ l .inv .1)
 
 same-length-3 : tie.Need-same-length-3 Inv-loop μ-loop
 same-length-3 c = search needs
@@ -59,12 +80,18 @@ serve-spec =
     μ-loop
     new-requires
     new-requires-2
+    new-requires-3
     loop-holds
+    sub-steps
+    next-requires
+    is-over-requires
+    close-requires
     same-length
     same-length-2
     returns
-    step-requires
-    sub-steps
+    read-line-requires
+    react-requires
+    onward-requires
     loop-less
     loop-again
     same-length-3

@@ -1,7 +1,7 @@
 -- `Counters::counted` meets its contract.
 use Rattle.line.specs.Lines.{countOf}
-use borrow.Author.Needs.{needs}
 use Rattle.line.proofs.Counters.counted.Statement.{statement}
+use borrow.Author.Needs.{needs}
 use Rattle.line.proofs.Counters.counted.Tie as tie
 
 one-more-requires : tie.Need-one-more-requires

@@ -1,59 +1,17 @@
 -- `Line::describe` meets its contract.
-use Rattle.line.proofs.Described.{describe-is}
 use borrow.Author.Needs.{needs}
+use Rattle.line.proofs.Described.{describe-is}
 use Rattle.line.proofs.Line.describe.Statement.{statement}
 use Rattle.line.proofs.Line.describe.Tie as tie
 
 phases-for-requires : tie.Need-phases-for-requires
 phases-for-requires c κs = search needs
 
-ruling-requires : tie.Need-ruling-requires
-ruling-requires c κs = search needs
-
-enum-known-ruling : tie.Need-enum-known-ruling
-enum-known-ruling c = search needs
-
-enum-told : tie.Need-enum-told
-enum-told c = search needs
-
-owed-requires : tie.Need-owed-requires
-owed-requires c κs = search needs
-
-cancelled-by-requires : tie.Need-cancelled-by-requires
-cancelled-by-requires c κs = search needs
-
-with-tariff-part-requires : tie.Need-with-tariff-part-requires
-with-tariff-part-requires c κs = search needs
-
-with-burst-part-requires : tie.Need-with-burst-part-requires
-with-burst-part-requires c κs = search needs
+described-requires : tie.Need-described-requires
+described-requires c κs = search needs
 
 returns : tie.Need-returns
-returns c =
-    let r = c .before .before .before in
-    let p = r .before in
-    rw (← describe-is, ← p .phases-for .ensures, ← r .ruling .ensures, c .before .ruling2 .given .1)
-
-returns-2 : tie.Need-returns-2
-returns-2 c =
-    let t = c .before in
-    let k = t .before in
-    let o = k .before in
-    let r = o .before .before .before in
-    let p = r .before in
-    rw (← describe-is, ← p .phases-for .ensures, ← r .ruling .ensures, o .before .enum-told .given .1, ← t .with-tariff-part .ensures, ← o .owed .ensures, k .cancelled-by .ensures, c .with-burst-part .ensures)
+returns c = rw (← describe-is, ← c .before .phases-for .ensures, c .described .ensures)
 
 pub describe-spec : {M : Type 1} → statement M
-describe-spec =
-    tie.close
-    (tie.spec
-    phases-for-requires
-    ruling-requires
-    enum-known-ruling
-    enum-told
-    owed-requires
-    cancelled-by-requires
-    with-tariff-part-requires
-    with-burst-part-requires
-    returns
-    returns-2)
+describe-spec = tie.close (tie.spec phases-for-requires described-requires returns)

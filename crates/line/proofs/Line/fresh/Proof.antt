@@ -1,7 +1,7 @@
 -- `Line::fresh` meets its contract.
 use Rattle.line.specs.Lines.{freshLine}
-use borrow.Author.Needs.{needs}
 use Rattle.line.proofs.Line.fresh.Statement.{statement}
+use borrow.Author.Needs.{needs}
 use Rattle.line.proofs.Line.fresh.Tie as tie
 
 no-table-requires : tie.Need-no-table-requires

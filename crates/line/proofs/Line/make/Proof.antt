@@ -5,12 +5,12 @@ use Prim.Native.Nat.{ℕ, _+_, _≤_}
 use native.Mathlib.Omega.{arith}
 use borrow.Author.Tests.{leb-true}
 use lib.Dec.{leb}
-use Rattle.tariff.proofs.Negated.{holds, fails}
 use Rattle.tariff.specs.Rules.{within}
-use Rattle.line.specs.Refusals.{soundConfiguration}
+use Rattle.descriptor.specs.Refusals.{soundConfiguration}
 use Rattle.line.specs.Lines.{makeOf}
-use borrow.Author.Needs.{needs}
+use Rattle.tariff.proofs.Negated.{holds, fails}
 use Rattle.line.proofs.Line.make.Statement.{statement}
+use borrow.Author.Needs.{needs}
 use Rattle.line.proofs.Line.make.Tie as tie
 
 -- the spacing of an accepted configuration

@@ -1,7 +1,7 @@
 -- `Line::tick` meets its contract.
 use Rattle.line.specs.Lines.{tickOf}
-use borrow.Author.Needs.{needs}
 use Rattle.line.proofs.Line.tick.Statement.{statement}
+use borrow.Author.Needs.{needs}
 use Rattle.line.proofs.Line.tick.Tie as tie
 
 step-requires : tie.Need-step-requires

@@ -1,8 +1,10 @@
 -- `Line::ticks` meets its contract. The loop's invariant: the line is that after i ticks.
 use mathlib.Core.Path.{_≡_, refl}
+use mathlib.Core.Bool.{false}
 use Prim.Native.Nat.{_≤_, _-_}
 use native.Mathlib.Omega.{arith}
 use native.Mathlib.Numerals.{add-one}
+use lib.Dec.{leb}
 use borrow.Author.Tests.{le-leb, lt-leb}
 use borrow.Author.Needs.{needs}
 use Rattle.line.specs.Lines.{afterTicks, ticksOf}
@@ -17,7 +19,9 @@ abbrev μ-loop : tie.MeasureT-loop
 
 returns : tie.Need-returns Inv-loop μ-loop
 unfolding ticksOf
-returns c = rw (lt-leb _ _ (c .if1 .taken))
+returns c =
+    let more : leb (c .before .args .n) 1000000 ≡ false = lt-leb _ _ (c .if1 .taken) in
+    rw more
 
 loop-holds : tie.Need-loop-holds Inv-loop μ-loop
 unfolding afterTicks

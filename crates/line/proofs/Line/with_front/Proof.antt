@@ -15,43 +15,26 @@ told-by-requires c κs = search needs
 enum-told-2 : tie.Need-enum-told-2
 enum-told-2 c = search needs
 
-counted-requires : tie.Need-counted-requires
-counted-requires c κs = search needs
-
-moved-by-requires-2 : tie.Need-moved-by-requires-2
-moved-by-requires-2 c κs = search needs
-
-told-by-requires-2 : tie.Need-told-by-requires-2
-told-by-requires-2 c κs = search needs
+with-pulse-requires : tie.Need-with-pulse-requires
+with-pulse-requires c κs = search needs
 
 enum-told-3 : tie.Need-enum-told-3
 enum-told-3 c = search needs
 
-counted-requires-2 : tie.Need-counted-requires-2
-counted-requires-2 c κs = search needs
-
 begun-requires : tie.Need-begun-requires
 begun-requires c κs = search needs
 
-moved-by-requires-3 : tie.Need-moved-by-requires-3
-moved-by-requires-3 c κs = search needs
-
-told-by-requires-3 : tie.Need-told-by-requires-3
-told-by-requires-3 c κs = search needs
+with-pulse-requires-2 : tie.Need-with-pulse-requires-2
+with-pulse-requires-2 c κs = search needs
 
 returns : tie.Need-returns
 returns c = rw (c .told-by .ensures, c .before .moved-by .ensures, c .before .before .enum-told .given .1)
 
 returns-2 : tie.Need-returns-2
-returns-2 c =
-    let m = c .before in
-    rw (c .told-by2 .ensures, m .moved-by2 .ensures, m .before .counted .ensures, m .before .before .enum-told2 .given .1)
+returns-2 c = rw (c .with-pulse .ensures, c .before .enum-told2 .given .1)
 
 returns-3 : tie.Need-returns-3
-returns-3 c =
-    let m = c .before in
-    let b = m .before in
-    rw (c .told-by3 .ensures, m .moved-by3 .ensures, b .begun .ensures, b .before .counted2 .ensures, b .before .before .enum-told3 .given .1)
+returns-3 c = rw (c .with-pulse2 .ensures, c .before .begun .ensures, c .before .before .enum-told3 .given .1)
 
 pub with-front-spec : {M : Type 1} → statement M
 with-front-spec =
@@ -61,14 +44,10 @@ with-front-spec =
     moved-by-requires
     told-by-requires
     enum-told-2
-    counted-requires
-    moved-by-requires-2
-    told-by-requires-2
+    with-pulse-requires
     enum-told-3
-    counted-requires-2
     begun-requires
-    moved-by-requires-3
-    told-by-requires-3
+    with-pulse-requires-2
     returns
     returns-2
     returns-3)

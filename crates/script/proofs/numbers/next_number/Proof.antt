@@ -1,5 +1,7 @@
 -- `next_number` meets its contract.
 use borrow.Author.Needs.{needs}
+use borrow.Author.Tests.{le-ltb}
+use Rattle.script.proofs.ReadLaws.{lost-read}
 use Rattle.script.proofs.numbers.next_number.Statement.{statement}
 use Rattle.script.proofs.numbers.next_number.Tie as tie
 
@@ -18,21 +20,24 @@ part-number-in-end c = search needs
 number-in-requires : tie.Need-number-in-requires
 number-in-requires c κs = search needs
 
-enum-known-number : tie.Need-enum-known-number
-enum-known-number c = search needs
+enum-known-found : tie.Need-enum-known-found
+enum-known-found c = search needs
 
 enum-told : tie.Need-enum-told
 enum-told c = search needs
 
 returns : tie.Need-returns
 returns c =
-    let n = c .before .before .before in
-    rw (← n .before .before .next-word .ensures .spelled, ← n .before .before .next-word .ensures .others, ← n .number-in .ensures, c .before .number .given .1)
+    let m = c .before .before .before in
+    let w = m .before .before .next-word .ensures in
+    record { told = rw (le-ltb _ _ (w .within), ← w .spelled, ← w .others, ← m .number-in .ensures, c .before .found .given .1) }
 
 returns-2 : tie.Need-returns-2
 returns-2 c =
-    let n = c .before .before in
-    rw (← n .before .before .next-word .ensures .spelled, ← n .before .before .next-word .ensures .others, ← n .number-in .ensures, c .enum-told .given .1)
+    let m = c .before .before in
+    let n = m .before .before in
+    let w = n .next-word .ensures in
+    lost-read (n .before .before .good .0 .1) (rw (← w .spelled, ← w .others, ← m .number-in .ensures, c .enum-told .given .1))
 
 pub next-number-spec : {M : Type 1} → statement M
 next-number-spec =
@@ -43,7 +48,7 @@ next-number-spec =
     part-number-in-start
     part-number-in-end
     number-in-requires
-    enum-known-number
+    enum-known-found
     enum-told
     returns
     returns-2)

@@ -1,5 +1,7 @@
 -- `next_burst` meets its contract.
 use borrow.Author.Needs.{needs}
+use borrow.Author.Tests.{le-ltb}
+use Rattle.script.proofs.ReadLaws.{lost-read}
 use Rattle.script.proofs.parts.next_burst.Statement.{statement}
 use Rattle.script.proofs.parts.next_burst.Tie as tie
 
@@ -15,41 +17,42 @@ part-name-start c = search needs
 part-name-end : tie.Need-part-name-end
 part-name-end c = search needs
 
-slice-aggregate-is-word : tie.Need-slice-aggregate-is-word
-slice-aggregate-is-word c = search needs
-
 is-word-requires : tie.Need-is-word-requires
 is-word-requires c κs = search needs
 
 returns : tie.Need-returns
 returns c =
-    rw (
-      ← c .before .before .before .before .next-word .ensures .spelled,
-      ← c .before .before .before .before .next-word .ensures .others,
-      ← c .before .is-word .ensures,
-      c .if1 .taken,
-    )
-
-slice-aggregate-is-word-2 : tie.Need-slice-aggregate-is-word-2
-slice-aggregate-is-word-2 c = search needs
+    let n = c .before .before .before in
+    let w = n .next-word .ensures in
+    record {
+      told = rw (
+        le-ltb _ _ (w .within),
+        ← w .spelled,
+        ← w .others,
+        ← c .before .is-word .ensures,
+        c .if1 .taken,
+      );
+    }
 
 is-word-requires-2 : tie.Need-is-word-requires-2
 is-word-requires-2 c κs = search needs
 
 returns-2 : tie.Need-returns-2
 returns-2 c =
-    let e1 = c .before .before .before in
-    rw (
-      ← e1 .before .before .before .before .next-word .ensures .spelled,
-      ← e1 .before .before .before .before .next-word .ensures .others,
-      ← e1 .before .is-word .ensures,
-      e1 .if1 .left,
-      ← c .before .is-word2 .ensures,
-      c .if2 .taken,
-    )
-
-slice-aggregate-is-word-3 : tie.Need-slice-aggregate-is-word-3
-slice-aggregate-is-word-3 c = search needs
+    let e1 = c .before .before in
+    let n = e1 .before .before .before in
+    let w = n .next-word .ensures in
+    record {
+      told = rw (
+        le-ltb _ _ (w .within),
+        ← w .spelled,
+        ← w .others,
+        ← e1 .before .is-word .ensures,
+        e1 .if1 .left,
+        ← c .before .is-word2 .ensures,
+        c .if2 .taken,
+      );
+    }
 
 is-word-requires-3 : tie.Need-is-word-requires-3
 is-word-requires-3 c κs = search needs
@@ -59,34 +62,41 @@ next-start-requires c κs = search needs
 
 returns-3 : tie.Need-returns-3
 returns-3 c =
-    let e2 = c .before .before .before .before in
-    let e1 = e2 .before .before .before in
-    rw (
-      ← e1 .before .before .before .before .next-word .ensures .spelled,
-      ← e1 .before .before .before .before .next-word .ensures .others,
-      ← e1 .before .is-word .ensures,
-      e1 .if1 .left,
-      ← e2 .before .is-word2 .ensures,
-      e2 .if2 .left,
-      ← c .before .before .is-word3 .ensures,
-      c .before .if3 .taken,
-      ← c .next-start .ensures,
-    )
+    let e3 = c .before in
+    let e2 = e3 .before .before in
+    let e1 = e2 .before .before in
+    let n = e1 .before .before .before in
+    let w = n .next-word .ensures in
+    record {
+      told = rw (
+        ← w .spelled,
+        ← w .others,
+        ← e1 .before .is-word .ensures,
+        e1 .if1 .left,
+        ← e2 .before .is-word2 .ensures,
+        e2 .if2 .left,
+        ← e3 .before .is-word3 .ensures,
+        e3 .if3 .taken,
+        ← c .next-start .ensures .told,
+      );
+    }
 
 returns-4 : tie.Need-returns-4
 returns-4 c =
-    let e2 = c .before .before .before in
-    let e1 = e2 .before .before .before in
-    rw (
-      ← e1 .before .before .before .before .next-word .ensures .spelled,
-      ← e1 .before .before .before .before .next-word .ensures .others,
+    let e2 = c .before .before in
+    let e1 = e2 .before .before in
+    let n = e1 .before .before .before in
+    let w = n .next-word .ensures in
+    lost-read (n .before .before .good .0 .1) (rw (
+      ← w .spelled,
+      ← w .others,
       ← e1 .before .is-word .ensures,
       e1 .if1 .left,
       ← e2 .before .is-word2 .ensures,
       e2 .if2 .left,
       ← c .before .is-word3 .ensures,
       c .if3 .left,
-    )
+    ))
 
 pub next-burst-spec : {M : Type 1} → statement M
 next-burst-spec =
@@ -96,13 +106,10 @@ next-burst-spec =
     sub-name
     part-name-start
     part-name-end
-    slice-aggregate-is-word
     is-word-requires
     returns
-    slice-aggregate-is-word-2
     is-word-requires-2
     returns-2
-    slice-aggregate-is-word-3
     is-word-requires-3
     next-start-requires
     returns-3

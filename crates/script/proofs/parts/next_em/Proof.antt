@@ -1,32 +1,18 @@
 -- `next_em` meets its contract.
 use borrow.Author.Needs.{needs}
+use Rattle.descriptor.specs.declared.TariffPart.the-variants.{Em}
+use Rattle.script.proofs.ReadLaws.{read-give, read-pair}
 use Rattle.script.proofs.parts.next_em.Statement.{statement}
 use Rattle.script.proofs.parts.next_em.Tie as tie
 
-next-pair-requires : tie.Need-next-pair-requires
-next-pair-requires c κs = search needs
+next-number-requires : tie.Need-next-number-requires
+next-number-requires c κs = search needs
 
-enum-known-count : tie.Need-enum-known-count
-enum-known-count c = search needs
-
-enum-told : tie.Need-enum-told
-enum-told c = search needs
+next-number-requires-2 : tie.Need-next-number-requires-2
+next-number-requires-2 c κs = search needs
 
 returns : tie.Need-returns
-returns c =
-    let n1 = c .before .before in
-    rw (
-      ← n1 .next-pair .ensures,
-      c .enum-told .given .1,
-    )
-
-returns-2 : tie.Need-returns-2
-returns-2 c =
-    let n1 = c .before .before .before in
-    rw (
-      ← n1 .next-pair .ensures,
-      c .before .count .given .1,
-    )
+returns c = read-give (λ q. (Em (q .0) (q .1), 0)) (read-pair (c .before .next-number .ensures) (c .next-number2 .ensures))
 
 pub next-em-spec : {M : Type 1} → statement M
-next-em-spec = tie.close (tie.spec next-pair-requires enum-known-count enum-told returns returns-2)
+next-em-spec = tie.close (tie.spec next-number-requires next-number-requires-2 returns)

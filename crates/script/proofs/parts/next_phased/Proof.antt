@@ -1,45 +1,20 @@
 -- `next_phased` meets its contract.
 use borrow.Author.Needs.{needs}
-use borrow.Author.Tests.{le-leb, lt-leb}
+use Rattle.descriptor.specs.declared.TariffPart.the-variants.{Phased}
+use Rattle.script.proofs.ReadLaws.{read-up-to}
 use Rattle.script.proofs.parts.next_phased.Statement.{statement}
 use Rattle.script.proofs.parts.next_phased.Tie as tie
 
 next-number-requires : tie.Need-next-number-requires
 next-number-requires c κs = search needs
 
-enum-known-phases : tie.Need-enum-known-phases
-enum-known-phases c = search needs
-
-enum-told : tie.Need-enum-told
-enum-told c = search needs
+up-to-requires : tie.Need-up-to-requires
+up-to-requires c κs = search needs
 
 returns : tie.Need-returns
 returns c =
-    let n1 = c .before .before in
-    rw (
-      ← n1 .next-number .ensures,
-      c .enum-told .given .1,
-    )
-
-returns-2 : tie.Need-returns-2
-returns-2 c =
-    let n1 = c .before .before .before .before in
-    rw (
-      ← n1 .next-number .ensures,
-      c .before .before .phases .given .1,
-      lt-leb _ 9 (c .if1 .taken),
-    )
-
-returns-3 : tie.Need-returns-3
-returns-3 c =
-    let n1 = c .before .before .before .before in
-    rw (
-      ← n1 .next-number .ensures,
-      c .before .before .phases .given .1,
-      le-leb _ 9 (c .if1 .left),
-    )
+    let n = c .before in
+    rw (c .up-to .ensures) (read-up-to 9 (λ k. (Phased, k)) (n .before .before .good .0 .1) (n .next-number .ensures))
 
 pub next-phased-spec : {M : Type 1} → statement M
-next-phased-spec =
-    tie.close
-    (tie.spec next-number-requires enum-known-phases enum-told returns returns-2 returns-3)
+next-phased-spec = tie.close (tie.spec next-number-requires up-to-requires returns)

@@ -1,5 +1,7 @@
 -- `next_tariff` meets its contract.
 use borrow.Author.Needs.{needs}
+use borrow.Author.Tests.{le-ltb}
+use Rattle.script.proofs.ReadLaws.{lost-read}
 use Rattle.script.proofs.parts.next_tariff.Statement.{statement}
 use Rattle.script.proofs.parts.next_tariff.Tie as tie
 
@@ -15,41 +17,42 @@ part-name-start c = search needs
 part-name-end : tie.Need-part-name-end
 part-name-end c = search needs
 
-slice-aggregate-is-word : tie.Need-slice-aggregate-is-word
-slice-aggregate-is-word c = search needs
-
 is-word-requires : tie.Need-is-word-requires
 is-word-requires c κs = search needs
 
 returns : tie.Need-returns
 returns c =
-    rw (
-      ← c .before .before .before .before .next-word .ensures .spelled,
-      ← c .before .before .before .before .next-word .ensures .others,
-      ← c .before .is-word .ensures,
-      c .if1 .taken,
-    )
-
-slice-aggregate-is-word-2 : tie.Need-slice-aggregate-is-word-2
-slice-aggregate-is-word-2 c = search needs
+    let n = c .before .before .before in
+    let w = n .next-word .ensures in
+    record {
+      told = rw (
+        le-ltb _ _ (w .within),
+        ← w .spelled,
+        ← w .others,
+        ← c .before .is-word .ensures,
+        c .if1 .taken,
+      );
+    }
 
 is-word-requires-2 : tie.Need-is-word-requires-2
 is-word-requires-2 c κs = search needs
 
 returns-2 : tie.Need-returns-2
 returns-2 c =
-    let e1 = c .before .before .before in
-    rw (
-      ← e1 .before .before .before .before .next-word .ensures .spelled,
-      ← e1 .before .before .before .before .next-word .ensures .others,
-      ← e1 .before .is-word .ensures,
-      e1 .if1 .left,
-      ← c .before .is-word2 .ensures,
-      c .if2 .taken,
-    )
-
-slice-aggregate-is-word-3 : tie.Need-slice-aggregate-is-word-3
-slice-aggregate-is-word-3 c = search needs
+    let e1 = c .before .before in
+    let n = e1 .before .before .before in
+    let w = n .next-word .ensures in
+    record {
+      told = rw (
+        le-ltb _ _ (w .within),
+        ← w .spelled,
+        ← w .others,
+        ← e1 .before .is-word .ensures,
+        e1 .if1 .left,
+        ← c .before .is-word2 .ensures,
+        c .if2 .taken,
+      );
+    }
 
 is-word-requires-3 : tie.Need-is-word-requires-3
 is-word-requires-3 c κs = search needs
@@ -59,22 +62,24 @@ next-rate-requires c κs = search needs
 
 returns-3 : tie.Need-returns-3
 returns-3 c =
-    let e2 = c .before .before .before .before in
-    let e1 = e2 .before .before .before in
-    rw (
-      ← e1 .before .before .before .before .next-word .ensures .spelled,
-      ← e1 .before .before .before .before .next-word .ensures .others,
-      ← e1 .before .is-word .ensures,
-      e1 .if1 .left,
-      ← e2 .before .is-word2 .ensures,
-      e2 .if2 .left,
-      ← c .before .before .is-word3 .ensures,
-      c .before .if3 .taken,
-      ← c .next-rate .ensures,
-    )
-
-slice-aggregate-is-word-4 : tie.Need-slice-aggregate-is-word-4
-slice-aggregate-is-word-4 c = search needs
+    let e3 = c .before in
+    let e2 = e3 .before .before in
+    let e1 = e2 .before .before in
+    let n = e1 .before .before .before in
+    let w = n .next-word .ensures in
+    record {
+      told = rw (
+        ← w .spelled,
+        ← w .others,
+        ← e1 .before .is-word .ensures,
+        e1 .if1 .left,
+        ← e2 .before .is-word2 .ensures,
+        e2 .if2 .left,
+        ← e3 .before .is-word3 .ensures,
+        e3 .if3 .taken,
+        ← c .next-rate .ensures .told,
+      );
+    }
 
 is-word-requires-4 : tie.Need-is-word-requires-4
 is-word-requires-4 c κs = search needs
@@ -84,25 +89,27 @@ next-em-requires c κs = search needs
 
 returns-4 : tie.Need-returns-4
 returns-4 c =
-    let e3 = c .before .before .before .before in
-    let e2 = e3 .before .before .before in
-    let e1 = e2 .before .before .before in
-    rw (
-      ← e1 .before .before .before .before .next-word .ensures .spelled,
-      ← e1 .before .before .before .before .next-word .ensures .others,
-      ← e1 .before .is-word .ensures,
-      e1 .if1 .left,
-      ← e2 .before .is-word2 .ensures,
-      e2 .if2 .left,
-      ← e3 .before .is-word3 .ensures,
-      e3 .if3 .left,
-      ← c .before .before .is-word4 .ensures,
-      c .before .if4 .taken,
-      ← c .next-em .ensures,
-    )
-
-slice-aggregate-is-word-5 : tie.Need-slice-aggregate-is-word-5
-slice-aggregate-is-word-5 c = search needs
+    let e4 = c .before in
+    let e3 = e4 .before .before in
+    let e2 = e3 .before .before in
+    let e1 = e2 .before .before in
+    let n = e1 .before .before .before in
+    let w = n .next-word .ensures in
+    record {
+      told = rw (
+        ← w .spelled,
+        ← w .others,
+        ← e1 .before .is-word .ensures,
+        e1 .if1 .left,
+        ← e2 .before .is-word2 .ensures,
+        e2 .if2 .left,
+        ← e3 .before .is-word3 .ensures,
+        e3 .if3 .left,
+        ← e4 .before .is-word4 .ensures,
+        e4 .if4 .taken,
+        ← c .next-em .ensures .told,
+      );
+    }
 
 is-word-requires-5 : tie.Need-is-word-requires-5
 is-word-requires-5 c κs = search needs
@@ -112,35 +119,42 @@ next-phased-requires c κs = search needs
 
 returns-5 : tie.Need-returns-5
 returns-5 c =
-    let e4 = c .before .before .before .before in
-    let e3 = e4 .before .before .before in
-    let e2 = e3 .before .before .before in
-    let e1 = e2 .before .before .before in
-    rw (
-      ← e1 .before .before .before .before .next-word .ensures .spelled,
-      ← e1 .before .before .before .before .next-word .ensures .others,
-      ← e1 .before .is-word .ensures,
-      e1 .if1 .left,
-      ← e2 .before .is-word2 .ensures,
-      e2 .if2 .left,
-      ← e3 .before .is-word3 .ensures,
-      e3 .if3 .left,
-      ← e4 .before .is-word4 .ensures,
-      e4 .if4 .left,
-      ← c .before .before .is-word5 .ensures,
-      c .before .if5 .taken,
-      ← c .next-phased .ensures,
-    )
+    let e5 = c .before in
+    let e4 = e5 .before .before in
+    let e3 = e4 .before .before in
+    let e2 = e3 .before .before in
+    let e1 = e2 .before .before in
+    let n = e1 .before .before .before in
+    let w = n .next-word .ensures in
+    record {
+      told = rw (
+        ← w .spelled,
+        ← w .others,
+        ← e1 .before .is-word .ensures,
+        e1 .if1 .left,
+        ← e2 .before .is-word2 .ensures,
+        e2 .if2 .left,
+        ← e3 .before .is-word3 .ensures,
+        e3 .if3 .left,
+        ← e4 .before .is-word4 .ensures,
+        e4 .if4 .left,
+        ← e5 .before .is-word5 .ensures,
+        e5 .if5 .taken,
+        ← c .next-phased .ensures .told,
+      );
+    }
 
 returns-6 : tie.Need-returns-6
 returns-6 c =
-    let e4 = c .before .before .before in
-    let e3 = e4 .before .before .before in
-    let e2 = e3 .before .before .before in
-    let e1 = e2 .before .before .before in
-    rw (
-      ← e1 .before .before .before .before .next-word .ensures .spelled,
-      ← e1 .before .before .before .before .next-word .ensures .others,
+    let e4 = c .before .before in
+    let e3 = e4 .before .before in
+    let e2 = e3 .before .before in
+    let e1 = e2 .before .before in
+    let n = e1 .before .before .before in
+    let w = n .next-word .ensures in
+    lost-read (n .before .before .good .0 .1) (rw (
+      ← w .spelled,
+      ← w .others,
       ← e1 .before .is-word .ensures,
       e1 .if1 .left,
       ← e2 .before .is-word2 .ensures,
@@ -151,7 +165,7 @@ returns-6 c =
       e4 .if4 .left,
       ← c .before .is-word5 .ensures,
       c .if5 .left,
-    )
+    ))
 
 pub next-tariff-spec : {M : Type 1} → statement M
 next-tariff-spec =
@@ -161,21 +175,16 @@ next-tariff-spec =
     sub-name
     part-name-start
     part-name-end
-    slice-aggregate-is-word
     is-word-requires
     returns
-    slice-aggregate-is-word-2
     is-word-requires-2
     returns-2
-    slice-aggregate-is-word-3
     is-word-requires-3
     next-rate-requires
     returns-3
-    slice-aggregate-is-word-4
     is-word-requires-4
     next-em-requires
     returns-4
-    slice-aggregate-is-word-5
     is-word-requires-5
     next-phased-requires
     returns-5

@@ -1,9 +1,24 @@
 -- `Phase::fits_in` meets its contract.
-use native.Mathlib.Nat.{one-mul, max-eq-right}
+use mathlib.Core.Path.{_≡_}
+use mathlib.Core.Bool.{_&&_, and-true, and-false}
+use Prim.Native.Nat.{ℕ, zero, suc, _*_, max}
+use native.Mathlib.Nat.{one-mul, zero-mul, max-eq-right}
 use native.Mathlib.Omega.{arith}
 use borrow.Author.Needs.{needs}
+use borrow.Author.Tests.{le-leb, leb-true}
+use borrow.Table.Steps.{cases}
+use lib.Dec.{leb}
 use Rattle.tariff.proofs.Phase.fits_in.Statement.{statement}
 use Rattle.tariff.proofs.Phase.fits_in.Tie as tie
+
+-- room for one slot and for pcx slots is room for the larger number
+room-for : (pcx pri room : ℕ) → (leb pri room && leb (pcx * pri) room) ≡ leb (max 1 pcx * pri) room
+room-for zero pri room = rw (zero-mul pri, le-leb 0 room (omega arith), and-true (leb pri room), one-mul pri)
+room-for (suc n) pri room =
+    rw (max-eq-right {n = 1} {m = suc n} (omega arith))
+    (cases (leb (suc n * pri) room)
+    (λ t. let fits = leb-true (suc n * pri) room t in rw (t, le-leb pri room (omega arith)))
+    (λ t. rw (t, and-false (leb pri room))))
 
 mul-room : tie.Need-mul-room
 mul-room c = search needs
@@ -15,12 +30,7 @@ times-requires : tie.Need-times-requires
 times-requires c κs = search needs
 
 returns : tie.Need-returns
-returns c = rw (c .before .if1 .taken, one-mul)
-
-returns-2 : tie.Need-returns-2
-returns-2 c =
-    let a = c .before .before .before .args in
-    rw (max-eq-right {n = 1} {m = a .self .pcx} (omega (arith, c .before .if1 .left)), ← c .times .ensures)
+returns c = let a = c .before .before .args in rw (c .times .ensures) (room-for (a .self .pcx) (a .self .pri) (1000 * a .seconds))
 
 pub fits-in-spec : {M : Type 1} → statement M
-fits-in-spec = tie.close (tie.spec mul-room cast-result times-requires returns returns-2)
+fits-in-spec = tie.close (tie.spec mul-room cast-result times-requires returns)

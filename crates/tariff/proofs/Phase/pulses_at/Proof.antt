@@ -4,10 +4,10 @@ use Prim.Native.Nat.{ℕ, _+_, _≤_}
 use native.Mathlib.Omega.{arith}
 use borrow.Author.Needs.{needs}
 use borrow.Table.Steps.{cases}
-use Rattle.pulse_map.proofs.Refusals.{has-map}
 use Rattle.pulse_map.specs.Refusals.{noMap}
 use Rattle.tariff.specs.Steps.{pulsesAt}
 use Rattle.tariff.specs.declared.Phase.{Phase}
+use Rattle.pulse_map.proofs.Refusals.{has-map}
 use Rattle.tariff.proofs.Phase.pulses_at.Statement.{statement}
 use Rattle.tariff.proofs.Phase.pulses_at.Tie as tie
 

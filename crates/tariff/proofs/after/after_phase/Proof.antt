@@ -8,14 +8,11 @@ use Rattle.tariff.proofs.after.after_phase.Tie as tie
 add-if1 : tie.Need-add-if1
 add-if1 c = search needs
 
-add-phase-at : tie.Need-add-phase-at
-add-phase-at c = search needs
+add-next : tie.Need-add-next
+add-next c = search needs
 
 phase-at-requires : tie.Need-phase-at-requires
 phase-at-requires c κs = search needs
-
-add-t11 : tie.Need-add-t11
-add-t11 c = search needs
 
 returns : tie.Need-returns
 unfolding afterPhase
@@ -27,4 +24,4 @@ returns-2 c = rw (le-ltb _ _ (c .if1 .left))
 
 pub after-phase-spec : {M : Type 1} → statement M
 after-phase-spec =
-    tie.close (tie.spec add-if1 add-phase-at phase-at-requires add-t11 returns returns-2)
+    tie.close (tie.spec add-if1 add-next phase-at-requires returns returns-2)

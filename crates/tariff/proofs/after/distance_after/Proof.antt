@@ -25,7 +25,7 @@ sub-result c =
 
 returns : tie.Need-returns
 unfolding distanceAfter
-returns c = let a = c .before .args in rw (add-mul (a .k) 1 (a .period), one-mul, ← c .times .ensures)
+returns c = let a = c .before .args in rw (c .times .ensures, add-mul (a .k) 1 (a .period), one-mul)
 
 pub distance-after-spec : {M : Type 1} → statement M
 distance-after-spec =

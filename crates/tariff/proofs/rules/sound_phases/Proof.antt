@@ -11,8 +11,7 @@ use lib.ListN.{take, drop, length, length-take, drop-of-length-le}
 use lib.Seq.{take-all}
 use Rattle.tariff.specs.Rules.{soundPhases}
 use Rattle.tariff.specs.declared.Phase.{Phase}
-use Rattle.tariff.proofs.Negated.{holds, fails}
-use Rattle.tariff.proofs.SoundFrom.{unsound-here, endless-here, sound-after}
+use Rattle.tariff.proofs.SoundFrom.{unsound-here, sound-after}
 use Rattle.tariff.proofs.rules.sound_phases.Statement.{statement}
 use Rattle.tariff.proofs.rules.sound_phases.Tie as tie
 
@@ -40,36 +39,23 @@ loop-holds c =
 phase-at-requires : tie.Need-phase-at-requires Inv-loop μ-loop
 phase-at-requires c κs = search needs
 
+add-ends : tie.Need-add-ends Inv-loop μ-loop
+add-ends c = search needs
+
 is-sound-requires : tie.Need-is-sound-requires Inv-loop μ-loop
 is-sound-requires c κs = search needs
 
 returns : tie.Need-returns Inv-loop μ-loop
 returns c =
-    let p = c .before .before in
+    let s = c .before in
+    let p = s .before .before in
     let t = p .before in
     let l = t .before in
     let a = l .before .before .args in
-    let bad = rw (p .phase-at .ensures) at (fails (c .before .is-sound .ensures) (c .if1 .taken)) in
     sym (
     l .loop .inv .1
-    ∙ unsound-here (a .spacing) (a .phases) (l .before .least .result) (l .loop .i) (t .loop-test .taken) (omega arith) (omega arith) bad
-    )
-
-add-result : tie.Need-add-result Inv-loop μ-loop
-add-result c = search needs
-
-returns-2 : tie.Need-returns-2 Inv-loop μ-loop
-returns-2 c =
-    let s = c .before .before .before in
-    let p = s .before in
-    let t = p .before in
-    let l = t .before in
-    let a = l .before .before .args in
-    let good = rw (p .phase-at .ensures) at (holds (s .is-sound .ensures) (c .before .before .if1 .left)) in
-    let endless = rw (p .phase-at .ensures) at (c .if2 .taken) in
-    sym (
-    l .loop .inv .1
-    ∙ endless-here (a .spacing) (a .phases) (l .before .least .result) (l .loop .i) (t .loop-test .taken) (omega arith) (omega (arith, l .before .before .good)) good endless
+    ∙ unsound-here (a .spacing) (a .phases) (l .before .least .result) (l .loop .i) (t .loop-test .taken) (omega arith) (omega (arith, l .before .before .good))
+    _ _ (p .phase-at .ensures) (s .is-sound .ensures) (c .if1 .taken)
     )
 
 add-i : tie.Need-add-i Inv-loop μ-loop
@@ -80,21 +66,20 @@ loop-less c = search needs
 
 loop-again : tie.Need-loop-again Inv-loop μ-loop
 loop-again c =
-    let s = c .before .before .before in
-    let p = s .before in
+    let s = c .before in
+    let p = s .before .before in
     let t = p .before in
     let l = t .before in
-    let a = l .before .before .args in
-    let good = rw (p .phase-at .ensures) at (holds (s .is-sound .ensures) (c .before .before .if1 .left)) in
-    let ends = rw (p .phase-at .ensures) at (c .if2 .left) in (
+    let a = l .before .before .args in (
       search needs,
       l .loop .inv .1
-          ∙ sound-after (a .spacing) (a .phases) (l .before .least .result) (l .loop .i) (t .loop-test .taken) (omega arith) (omega (arith, l .before .before .good)) good ends,
+          ∙ sound-after (a .spacing) (a .phases) (l .before .least .result) (l .loop .i) (t .loop-test .taken) (omega arith) (omega (arith, l .before .before .good))
+          _ _ (p .phase-at .ensures) (s .is-sound .ensures) (c .if1 .left),
     )
 
-returns-3 : tie.Need-returns-3 Inv-loop μ-loop
+returns-2 : tie.Need-returns-2 Inv-loop μ-loop
 unfolding soundPhases
-returns-3 c =
+returns-2 c =
     let l = c .before in
     let a = l .before .before .args in
     let n = l .before .least .result in
@@ -110,11 +95,10 @@ sound-phases-spec =
     least-requires
     loop-holds
     phase-at-requires
+    add-ends
     is-sound-requires
     returns
-    add-result
-    returns-2
     add-i
     loop-less
     loop-again
-    returns-3)
+    returns-2)

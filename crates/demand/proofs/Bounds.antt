@@ -1,0 +1,151 @@
+-- The fields of a line that commands can produce stay within their bounds, however many ticks there are. A tariff's own
+-- bounds are `Good` of the crate tariff, which the coupling carries.
+use mathlib.Core.Path.{_≡_, refl}
+use mathlib.Core.Bool.{Bool, not, _&&_, and-eq-true-iff}
+use mathlib.Core.List.{List}
+use Prim.Native.Nat.{ℕ, _^_, _≤_, _<_}
+use native.Mathlib.Omega.{arith}
+use borrow.Author.Tests.{leb-true, not-false}
+use borrow.Table.Steps.{cases}
+use lib.Dec.{leb, eqb}
+use Rattle.tariff.specs.Rules.{within}
+use Rattle.tariff.specs.Steps.{stepOf, isEndless}
+use Rattle.tariff.specs.declared.Phase.{Phase}
+use Rattle.tariff.specs.declared.Stepped.{Stepped}
+use Rattle.phase_lists.specs.Lists.{Lists, phasesOf}
+use Rattle.phase_lists.specs.Tables.{tableWith}
+use Rattle.descriptor.specs.Refusals.{ruling, soundBurst, tariffCauses, burstCauses}
+use Rattle.descriptor.specs.declared.TariffPart.{TariffPart}
+use Rattle.descriptor.specs.declared.TariffPart.the-variants.{None as NoTariff, Keep as KeepTariff, Rate, Em, Phased}
+use Rattle.descriptor.specs.declared.BurstPart.{BurstPart}
+use Rattle.descriptor.specs.declared.BurstPart.the-variants.{None as NoBurst, Keep as KeepBurst, Start}
+use Rattle.descriptor.specs.declared.Ruling.{Ruling}
+use Rattle.descriptor.specs.declared.Ruling.the-variants.{Allowed, TurnedDown}
+use Rattle.burst.specs.Bursts.{owedBy, isRunning, heldMore, agedOf, begunOf, readyOf}
+use Rattle.burst.specs.declared.Burst.{Burst}
+use Rattle.burst.specs.declared.Burst.the-variants.{Idle, Running as Owing}
+use Rattle.burst.specs.declared.Aged.{Aged}
+use Rattle.line.specs.Rules.{oneMore, reportDue, cancelledBy, frontAt}
+use Rattle.line.specs.Lines.{freshLine, describeOf, hookOf, periodOf, noPeriodOf, auditOf, answeredBy, tariffChanged, burstChanged, withPeriod, countOf, tickWithFront, tickOf}
+use Rattle.line.specs.declared.Hook.the-variants.{Keep, Stop}
+use Rattle.line.specs.declared.Counters.{Counters}
+use Rattle.line.specs.declared.Front.{Front}
+use Rattle.line.specs.declared.Front.the-variants.{None, Tariff as TariffFront, Burst as BurstFront}
+use Rattle.line.specs.declared.Line.{Line}
+use Rattle.demand.specs.Calls.{Call, describe, hook, period, noPeriod, audit, tick, lentTick, Entry}
+use Rattle.demand.specs.Machine.{rulingOf, Outcome, outcome, answered, step}
+use Rattle.descriptor.proofs.Causes.{none-first, none-after}
+use Rattle.demand.proofs.Coupled.{Config}
+use Rattle.demand.proofs.Run.{Run, begin, more}
+
+pub record Owes (m B k : ℕ) : Type 0 where
+  pub owed : m ≤ 65535
+  pub distance : B ≤ 60000
+  pub since : k ≤ B
+
+abbrev pub BurstBounded : Burst → Type 0
+BurstBounded Idle = Unit {0}
+BurstBounded (Owing m B k) = Owes m B k
+
+pub record CountersBounded (n : Counters) : Type 0 where
+  pub cpc : n .cpc ≤ 4294967295
+  pub pcslr : n .pcslr ≤ 4294967295
+
+pub record Bounded (l : Line) : Type 0 where
+  pub spacing : l .spacing ≤ 1000
+  pub clock : l .clock < 2 ^ 32
+  pub since : l .since ≤ l .spacing
+  pub burst : BurstBounded (l .burst)
+  pub counters : CountersBounded (l .counters)
+
+-- ---- commands
+tariff-bounded : (t : TariffPart) (ps : List Phase) (l : Line) → Bounded l → Bounded (tariffChanged t (tableWith ps) l)
+unfolding tariffChanged
+tariff-bounded NoTariff ps l x = record { spacing = x .spacing; clock = x .clock; since = x .since; burst = x .burst; counters = x .counters }
+tariff-bounded KeepTariff ps l x = x
+tariff-bounded (Rate P) ps l x = record { spacing = x .spacing; clock = x .clock; since = x .since; burst = x .burst; counters = x .counters }
+tariff-bounded (Em C P) ps l x = record { spacing = x .spacing; clock = x .clock; since = x .since; burst = x .burst; counters = record { cpc = omega arith; pcslr = omega arith } }
+tariff-bounded Phased ps l x = record { spacing = x .spacing; clock = x .clock; since = x .since; burst = x .burst; counters = x .counters }
+
+-- a start that is allowed is within its ends
+abbrev Allows : BurstPart → Type 0
+Allows NoBurst = Unit {0}
+Allows KeepBurst = Unit {0}
+Allows (Start n P) = (n ≤ 65535) × (P ≤ 60000)
+
+allows : (S : ℕ) (e b : Bool) (p : BurstPart) → ruling (burstCauses S e b p) ≡ Allowed → Allows p
+allows S e b NoBurst h = tt
+allows S e b KeepBurst h = tt
+allows S e b (Start n P) h =
+    let sound = and-eq-true-iff (within 1 65535 n) (within 1 60000 P) .0 (not-false (soundBurst n P) (none-first _ (not (soundBurst n P)) _ h .0)) in
+    (leb-true n 65535 (and-eq-true-iff (leb 1 n) _ .0 (sound .0) .1), leb-true P 60000 (and-eq-true-iff (leb 1 P) _ .0 (sound .1) .1))
+
+burst-bounded : (p : BurstPart) (l : Line) → Allows p → Bounded l → Bounded (burstChanged p l)
+unfolding burstChanged
+burst-bounded NoBurst l h x = record { spacing = x .spacing; clock = x .clock; since = x .since; burst = tt; counters = x .counters }
+burst-bounded KeepBurst l h x = x
+burst-bounded (Start n P) l h x =
+    record { spacing = x .spacing; clock = x .clock; since = x .since; burst = record { owed = h .0; distance = omega (arith, h .1, x .spacing); since = omega arith }; counters = x .counters }
+
+abbrev OutcomeBounded : Outcome → Type 0
+OutcomeBounded (outcome a l) = Bounded l
+
+described : (t : TariffPart) (ls : Lists) (p : BurstPart) (l : Line) (u : Ruling) → rulingOf l (describe t ls p) ≡ u → Bounded l →
+    OutcomeBounded (answered (answeredBy u l (burstChanged p (tariffChanged t (tableWith (phasesOf ls)) l)) (cancelledBy p (owedBy (l .burst)))))
+described t ls p l (TurnedDown r) e x = x
+described t ls p l Allowed e x =
+    let free = none-after (tariffCauses (l .spacing) (isEndless (l .tariff)) (isRunning (l .burst)) t ls) (burstCauses (l .spacing) (isEndless (l .tariff)) (isRunning (l .burst)) p) e in
+    burst-bounded p (tariffChanged t (tableWith (phasesOf ls)) l) (allows (l .spacing) (isEndless (l .tariff)) (isRunning (l .burst)) p (free .1)) (tariff-bounded t (phasesOf ls) l x)
+
+ruled : (n : ℕ) (l : Line) (u : Ruling) → Bounded l → OutcomeBounded (answered (answeredBy u l (withPeriod l n) 0))
+ruled n l Allowed x = record { spacing = x .spacing; clock = x .clock; since = x .since; burst = x .burst; counters = record { cpc = x .counters .cpc; pcslr = x .counters .pcslr } }
+ruled n l (TurnedDown r) x = x
+
+-- ---- a tick
+aged-bounded : (D : ℕ) (b : Burst) → BurstBounded b → BurstBounded (agedOf D b .burst)
+unfolding agedOf
+aged-bounded D Idle x = tt
+aged-bounded D (Owing m B k) x =
+    cases (eqb m 0 && eqb (heldMore B k) D) (λ e. rw e tt) (λ e. rw e (record { owed = x .owed; distance = x .distance; since = omega arith }))
+
+begun-bounded : (b : Burst) → BurstBounded b → BurstBounded (begunOf b)
+begun-bounded Idle x = tt
+begun-bounded (Owing m B k) x = record { owed = omega (arith, x .owed); distance = x .distance; since = omega arith }
+
+count-bounded : (n : Counters) → CountersBounded n → CountersBounded (countOf n .counters)
+unfolding countOf
+count-bounded n x =
+    cases (reportDue (n .rp) (oneMore (n .pcslr))) (λ e. rw e (record { cpc = omega arith; pcslr = omega arith })) (λ e. rw e (record { cpc = omega arith; pcslr = omega arith }))
+
+front-bounded : (l : Line) (t : Stepped) (b : Aged) (f : Front) → Bounded l → BurstBounded (b .burst) → Bounded (tickWithFront l t b (heldMore (l .spacing) (l .since)) f .line)
+front-bounded l t b None x y = record { spacing = x .spacing; clock = omega arith; since = omega arith; burst = y; counters = x .counters }
+front-bounded l t b TariffFront x y = record { spacing = x .spacing; clock = omega arith; since = omega arith; burst = y; counters = count-bounded (l .counters) (x .counters) }
+front-bounded l t b BurstFront x y = record { spacing = x .spacing; clock = omega arith; since = omega arith; burst = begun-bounded (b .burst) y; counters = count-bounded (l .counters) (x .counters) }
+
+tick-bounded : (l : Line) → Bounded l → Bounded (tickOf l .line)
+unfolding tickOf
+tick-bounded l x =
+    let t : Stepped = stepOf (l .pulse) (l .phases) (l .count) (l .tariff) in
+    let b : Aged = agedOf (l .pulse) (l .burst) in
+    front-bounded l t b (frontAt (t .slot) (readyOf (l .spacing) (heldMore (l .spacing) (l .since)) (b .burst) (t .tariff))) x (aged-bounded (l .pulse) (l .burst) (x .burst))
+
+-- ---- every call
+step-bounded : (l : Line) → Bounded l → (c : Call) → OutcomeBounded (step l c)
+unfolding step describeOf hookOf periodOf noPeriodOf auditOf
+step-bounded l x (describe t ls p) = described t ls p l (rulingOf l (describe t ls p)) refl x
+step-bounded l x (hook Keep) = x
+step-bounded l x (hook Stop) = record { spacing = x .spacing; clock = x .clock; since = x .since; burst = tt; counters = x .counters }
+step-bounded l x (period n) = ruled n l (rulingOf l (period n)) x
+step-bounded l x noPeriod = ruled 0 l Allowed x
+step-bounded l x audit = x
+step-bounded l x tick = tick-bounded l x
+step-bounded l x lentTick = tick-bounded l x
+
+module _ (D S clock : ℕ) (cfg : Config D S) (small : clock < 2 ^ 32) where
+  bounded-outcome : (o o′ : Outcome) → o ≡ o′ → OutcomeBounded o → OutcomeBounded o′
+  bounded-outcome o o′ e x = rw e at x
+
+  pub bounded : {h : List Entry} {l : Line} → Run D S clock cfg h l → Bounded l
+  unfolding freshLine
+  bounded begin = record { spacing = cfg .most; clock = small; since = omega arith; burst = tt; counters = record { cpc = omega arith; pcslr = omega arith } }
+  bounded (more {l = l} {l′ = l′} {c = c} {a = a} r e) = bounded-outcome (step l c) (outcome a l′) e (step-bounded l (bounded r) c)

@@ -1,0 +1,42 @@
+-- The coupling of a line with its history: each field is the bounded form of what the history says.
+use mathlib.Core.Path.{_≡_}
+use mathlib.Core.Bool.{true}
+use mathlib.Core.List.{List}
+use Prim.Native.Nat.{ℕ, _+_, _%_, _^_, max, _≤_, _<_}
+use Rattle.tariff.specs.declared.Phase.{Phase}
+use Rattle.tariff.specs.declared.Tariff.{Tariff}
+use Rattle.slots.specs.Running.{Running}
+use Rattle.burst.specs.declared.Burst.{Burst}
+use Rattle.burst.specs.declared.Burst.the-variants.{Idle, Running as Owing}
+use Rattle.line.specs.declared.Line.{Line}
+use Rattle.demand.specs.Calls.{Entry}
+use Rattle.demand.specs.History.{Last, at, Started, idle, started, pulseOn, ticks, lastFront, burstIn, running, total, sinceReport, periodIn}
+use Rattle.slots.proofs.Ahead.{nextOf, Good}
+use Rattle.slots.proofs.Agree.{Agree}
+use Rattle.demand.proofs.Held.{heldSince, Before}
+
+-- what an accepted configuration says of the pulse length D and the spacing S
+pub record Config (D S : ℕ) : Type 0 where
+  pub pulse : 1 ≤ D
+  pub gap : D < S
+  pub most : S ≤ 1000
+
+-- no slot is left, or the next one is S ticks after the last front or later
+abbrev pub Apart : ℕ → ℕ → ℕ → Type 0
+Apart S since next = (next ≡ 0 → ⊥) → S ≤ since + next
+
+module _ (D S i : ℕ) where
+  -- the burst: none; it runs, with m of its pulses owed; or its last pulse has ended
+  pub data BurstAt : Started → Burst → Type 0 where
+    none : BurstAt idle Idle
+    runs : {n P k m s : ℕ} {last : Last} → m + k ≡ n → s ≡ heldSince (max P S) last i → Before last i → (m ≡ 0 → pulseOn D last i ≡ true) → BurstAt (started n P k last) (Owing m (max P S) s)
+    over : {n P k u : ℕ} → n ≤ k → u + D ≤ i → BurstAt (started n P k (at u)) Idle
+
+module _ (D S clock : ℕ) where
+  -- after i ticks, by what the history says then
+  pub data At (i : ℕ) (last : Last) (b : Started) (r : Running) (cpc pcslr rp : ℕ) : Line → Type 0 where
+    line-at : {w : ℕ} {t : Tariff} {ps : List Phase} {n : ℕ} {u : Burst} → w ≡ heldSince S last i → Before last i → Agree D ps n r t i → Good S ps n t → BurstAt D S i b u → Apart S w (nextOf t) →
+        At i last b r cpc pcslr rp (record { pulse = D; spacing = S; clock = (clock + i) % 2 ^ 32; since = w; tariff = t; phases = ps; count = n; burst = u; counters = record { cpc = cpc; pcslr = pcslr; rp = rp } })
+
+  abbrev pub Coupled : List Entry → Line → Type 0
+  Coupled h l = At (ticks h) (lastFront h) (burstIn h) (running D S h) (total h) (sinceReport h) (periodIn h) l

@@ -1,0 +1,147 @@
+-- The theorems about every list of calls on a fresh line: each answer is the paper's, and demand 3 holds.
+use mathlib.Core.Path.{_≡_, refl, sym, ap, _∙_}
+use mathlib.Core.Bool.{Bool, true, false, and-eq-true-iff}
+use mathlib.Core.List.{List, [], _∷_, _++_}
+use mathlib.Core.Logic.{_↔_}
+use Prim.Native.Nat.{ℕ, _+_, _^_, min, _<_}
+use native.Mathlib.Omega.{arith}
+use borrow.Author.Tests.{leb-true}
+use lib.Dec.{leb}
+use Rattle.tariff.specs.Rules.{within}
+use Rattle.tariff.specs.declared.Slot.{Slot}
+use Rattle.tariff.specs.declared.Slot.the-variants.{None as NoSlot, Empty, Pulse}
+use Rattle.slots.specs.Running.{slotAt}
+use Rattle.descriptor.specs.Refusals.{ruling, soundConfiguration}
+use Rattle.descriptor.specs.declared.Ruling.the-variants.{Allowed, TurnedDown}
+use Rattle.descriptor.specs.declared.TariffPart.{TariffPart}
+use Rattle.descriptor.specs.declared.TariffPart.the-variants.{None as NoTariff, Keep as KeepTariff, Rate, Em, Phased}
+use Rattle.line.specs.Rules.{frontAt}
+use Rattle.line.specs.Lines.{freshLine, makeOf, onOf}
+use Rattle.line.specs.declared.Hook.the-variants.{Stop}
+use Rattle.line.specs.declared.Front.{Front}
+use Rattle.line.specs.declared.Front.the-variants.{None, Tariff as TariffFront, Burst as BurstFront}
+use Rattle.line.specs.declared.Line.{Line}
+use Rattle.line.specs.declared.Tick.{Tick}
+use Rattle.demand.specs.Calls.{Call, hook, audit, Answer, accepted, counters, ticked, Entry, entry}
+use Rattle.demand.specs.History.{tariffAsked, frontOf, frontTold, isFront, ticks, running, owed, total, sinceReport, countBy, zeroedBy}
+use Rattle.demand.specs.Answers.{burstMayStart, answerAfter}
+use Rattle.demand.specs.Machine.{Outcome, outcome, step, Past, past, noted, afterCall, afterCalls, entries, lineAfter, history}
+use Rattle.demand.specs.Demand.{frontsSinceEm, EndAnswers, Follows, Demand3}
+use Rattle.demand.proofs.Coupled.{Config}
+use Rattle.demand.proofs.AnswerKinds.{Kind, to-command, to-audit, to-tick, kind}
+use Rattle.demand.proofs.Run.{Run, coupled, answer-right, step-right, Right, clock-agrees, on-agrees, reads, run-history, cut}
+use Rattle.demand.proofs.Sum.{sum-run}
+use Rattle.demand.proofs.Bound.{bound}
+use Rattle.demand.proofs.Spacing.{spacing-run}
+
+-- ---- the total counter
+counted-held : (f : Front) (n : ℕ) → countBy f (min 4294967295 n) ≡ min 4294967295 (isFront f + n)
+counted-held None n = omega arith
+counted-held TariffFront n = omega arith
+counted-held BurstFront n = omega arith
+
+zeroed-held : (t : TariffPart) (n : ℕ) → zeroedBy t (min 4294967295 n) ≡ min 4294967295 (zeroedBy t n)
+zeroed-held NoTariff n = refl
+zeroed-held KeepTariff n = refl
+zeroed-held (Rate P) n = refl
+zeroed-held (Em C P) n = omega arith
+zeroed-held Phased n = refl
+
+total-is : (h : List Entry) → total h ≡ min 4294967295 (frontsSinceEm h)
+unfolding total frontsSinceEm
+total-is [] = omega arith
+total-is (e ∷ h) = rw (total-is h, counted-held (frontOf e) (frontsSinceEm h)) (zeroed-held (tariffAsked e) (isFront (frontOf e) + frontsSinceEm h))
+
+-- ---- slots
+tariff-front : (s : Slot) (may : Bool) → (frontAt s may ≡ TariffFront) ↔ (s ≡ Pulse)
+tariff-front NoSlot true = (λ e. absurd (let o : _≡_ {A = ℕ} 0 1 = cc in omega arith), λ e. absurd (let o : _≡_ {A = ℕ} 0 1 = cc in omega arith))
+tariff-front NoSlot false = (λ e. absurd (let o : _≡_ {A = ℕ} 0 1 = cc in omega arith), λ e. absurd (let o : _≡_ {A = ℕ} 0 1 = cc in omega arith))
+tariff-front Empty may = (λ e. absurd (let o : _≡_ {A = ℕ} 0 1 = cc in omega arith), λ e. absurd (let o : _≡_ {A = ℕ} 0 1 = cc in omega arith))
+tariff-front Pulse may = (λ e. refl, λ e. refl)
+
+-- only a tick is answered with a front
+slot-front : (D S : ℕ) (h : List Entry) (t : Tick) (c : Call) (a : Answer) → a ≡ ticked t → Kind D S h c a → (t .front ≡ TariffFront) ↔ (slotAt (running D S h) (ticks h + 1) ≡ Pulse)
+slot-front D S h t c a e (to-command Allowed f) = absurd (let o : _≡_ {A = ℕ} 0 1 = cc in omega arith)
+slot-front D S h t c a e (to-command (TurnedDown r) f) = absurd (let o : _≡_ {A = ℕ} 0 1 = cc in omega arith)
+slot-front D S h t c a e to-audit = absurd (let o : _≡_ {A = ℕ} 0 1 = cc in omega arith)
+slot-front D S h t c a e (to-tick f) =
+    let due : t .front ≡ frontAt (slotAt (running D S h) (ticks h + 1)) (burstMayStart D S h (ticks h + 1)) = ap (λ (x : Answer). frontTold x) (sym e) in
+    rw due (tariff-front _ _)
+
+-- ---- an accepted configuration
+config : (D G : ℕ) → soundConfiguration D G ≡ true → Config D (D + G)
+config D G h =
+    let both = and-eq-true-iff (within 1 500 D) (within 1 500 G) .0 h in
+    let d = and-eq-true-iff (leb 1 D) (leb D 500) .0 (both .0) in
+    let g = and-eq-true-iff (leb 1 G) (leb G 500) .0 (both .1) in
+    record { pulse = leb-true 1 D (d .0); gap = omega (arith, leb-true 1 G (g .0)); most = omega (arith, leb-true D 500 (d .1), leb-true G 500 (g .1)) }
+
+made : (D G clock : ℕ) → soundConfiguration D G ≡ true → makeOf D G clock .line ≡ freshLine D (D + G) clock
+unfolding makeOf
+made D G clock h = rw h
+
+-- ---- a call at the end of a list
+calls-end : (p : Past) (cs : List Call) (c : Call) → afterCalls p (cs ++ (c ∷ [])) ≡ afterCall (afterCalls p cs) c
+unfolding afterCalls
+calls-end p [] c = refl
+calls-end p (d ∷ cs) c = calls-end (afterCall p d) cs c
+
+module _ (D S clock : ℕ) (cfg : Config D S) (small : clock < 2 ^ 32) where
+  abbrev Ends : List Entry → Call → Past → Type 0
+  Ends h c p = (k : ℕ) × (on : Bool) × (entries p ≡ entry c (answerAfter D S h c) k on ∷ h)
+
+  noted-end : (h : List Entry) (c : Call) (o : Outcome) → Right D S clock cfg h c o → Ends h c (noted h c o)
+  noted-end h c (outcome a l) r = (l .clock, onOf l, ap (λ (x : Answer). entry c x (l .clock) (onOf l) ∷ h) (r .0))
+
+  call-end : (p : Past) (c : Call) → Run D S clock cfg (entries p) (lineAfter p) → Ends (entries p) c (afterCall p c)
+  call-end (past h l) c r = noted-end h c (step l c) (step-right D S clock cfg h (coupled D S clock cfg small r) c)
+
+module _ (D G clock : ℕ) (sound : soundConfiguration D G ≡ true) (small : clock < 2 ^ 32) (cs : List Call) where
+  abbrev S : ℕ
+  S = D + G
+
+  abbrev cfg : Config D S
+  cfg = config D G sound
+
+  run : (l : Line) × Run D S clock cfg (history D G clock cs) l
+  unfolding history
+  run = rw (made D G clock sound) (_, run-history D S clock cfg cs)
+
+  run-part : (a h : List Entry) → history D G clock cs ≡ a ++ h → (l : Line) × Run D S clock cfg h l
+  run-part a h e = cut D S clock cfg a h (rw e at (run .1))
+
+  end-answers : (c : Call) → EndAnswers D G clock cs c (answerAfter D S (history D G clock cs) c)
+  unfolding history
+  end-answers c =
+      rw (made D G clock sound, calls-end (past [] (freshLine D S clock)) cs c)
+      (call-end D S clock cfg small (afterCalls (past [] (freshLine D S clock)) cs) c (run-history D S clock cfg cs))
+
+  stop-answers : EndAnswers D G clock cs (hook Stop) (accepted (owed (history D G clock cs)))
+  unfolding answerAfter ruling
+  stop-answers = end-answers (hook Stop)
+
+  audit-answers : EndAnswers D G clock cs audit (counters (min 4294967295 (frontsSinceEm (history D G clock cs))) (sinceReport (history D G clock cs)))
+  unfolding answerAfter
+  audit-answers = rw (← total-is (history D G clock cs)) (end-answers audit)
+
+  pub follows : (after before : List Entry) (c : Call) (a : Answer) (k : ℕ) (on : Bool) → history D G clock cs ≡ after ++ (entry c a k on ∷ before) → Follows D G clock cs c a k on before
+  follows after before c a k on e =
+      let r = run-part after (entry c a k on ∷ before) e .1 in
+      let x = coupled D S clock cfg small r in
+      let reading = reads D S clock cfg r in
+      record {
+        answer = answer-right D S clock cfg small r;
+        clock-reads = reading .0 ∙ clock-agrees D S clock cfg (entry c a k on ∷ before) x;
+        on-reads = reading .1 ∙ on-agrees D S clock cfg (entry c a k on ∷ before) x;
+      }
+
+  pub demand3 : Demand3 D G clock cs
+  demand3 = record {
+    sum = sum-run D S clock cfg small (run .1);
+    stop = stop-answers;
+    bound = λ rest before e n P h. bound D S clock cfg small n P rest before e (rw h at (run .1));
+    slots = λ after before c t k on h. slot-front D S before t c (ticked t) refl (kind D S before c (answer-right D S clock cfg small (run-part after (entry c (ticked t) k on ∷ before) h .1)));
+    spacing = λ after between before f e h. spacing-run D S clock cfg small between before f e (run-part after (f ∷ (between ++ (e ∷ before))) h .1);
+    on = λ after before c a k o h. follows after before c a k o h .on-reads;
+    total = audit-answers;
+  }

@@ -1,0 +1,152 @@
+-- What a call does to a line whose burst owes a pulse, in the numbers of the bound.
+use mathlib.Core.Path.{_≡_, refl, sym, ap, _∙_}
+use mathlib.Core.Bool.{Bool, true, false, _&&_, _||_}
+use Prim.Native.Nat.{ℕ, suc, _+_, _-_, _*_, min, _≤_}
+use native.Mathlib.Omega.{arith}
+use borrow.Author.Tests.{leb-false, eqb-false, ne-eqb, lt-ltb}
+use lib.Dec.{leb, eqb}
+use Rattle.tariff.specs.Steps.{stepOf, isEndless}
+use Rattle.tariff.specs.declared.Slot.{Slot}
+use Rattle.tariff.specs.declared.Slot.the-variants.{None as NoSlot, Empty, Pulse}
+use Rattle.tariff.specs.declared.Stepped.{Stepped}
+use Rattle.phase_lists.specs.Lists.{Lists, phasesOf}
+use Rattle.phase_lists.specs.Tables.{tableWith}
+use Rattle.descriptor.specs.declared.Ruling.{Ruling}
+use Rattle.descriptor.specs.declared.Ruling.the-variants.{Allowed, TurnedDown}
+use Rattle.descriptor.specs.declared.TariffPart.{TariffPart}
+use Rattle.descriptor.specs.declared.TariffPart.the-variants.{None as NoTariff, Keep as KeepTariff, Rate, Em, Phased}
+use Rattle.descriptor.specs.declared.BurstPart.{BurstPart}
+use Rattle.descriptor.specs.declared.BurstPart.the-variants.{None as NoBurst, Keep as KeepBurst, Start}
+use Rattle.burst.specs.Bursts.{owedBy, isRunning, heldMore, agedOf, readyOf}
+use Rattle.burst.specs.declared.Burst.the-variants.{Running as Owing}
+use Rattle.burst.specs.declared.Aged.{Aged}
+use Rattle.line.specs.Rules.{cancelledBy, frontAt}
+use Rattle.line.specs.Lines.{describeOf, hookOf, periodOf, noPeriodOf, auditOf, tickOf, onOf, answeredBy, tariffChanged, burstChanged, withPeriod, tickWithFront, tickBy}
+use Rattle.line.specs.declared.Hook.the-variants.{Keep, Stop}
+use Rattle.line.specs.declared.Front.the-variants.{None, Tariff as TariffFront, Burst as BurstFront}
+use Rattle.line.specs.declared.Line.{Line}
+use Rattle.line.specs.declared.Ticked.{Ticked}
+use Rattle.demand.specs.Calls.{Call, describe, hook, period, noPeriod, audit, tick, lentTick, ticked, Entry, entry}
+use Rattle.demand.specs.History.{tariffAsked, burstAsked, frontOf, ticksBy, ticksAfter}
+use Rattle.demand.specs.Machine.{rulingOf, Outcome, outcome, answered, step}
+use Rattle.demand.specs.Demand.{isFresh, isNone}
+use Rattle.slots.proofs.Ahead.{nextOf, Waits, Good}
+use Rattle.slots.proofs.Agree.{Next, waits, empty, pulse}
+use Rattle.slots.proofs.Tick.{good-step, next-step}
+use Rattle.slots.proofs.Start.{next-rate}
+use Rattle.slots.proofs.Room.{room-next}
+use Rattle.demand.proofs.Coupled.{Config}
+use Rattle.demand.proofs.Taken.{starts-idle}
+use Rattle.demand.proofs.Potential.{Blocked, slot-near, front-near, own-near}
+
+-- the entry is of a tick, or of another call
+abbrev pub IsTick : Entry → Type 0
+IsTick e = (n : ℕ) → ticksAfter e n ≡ n + 1
+
+abbrev pub NoTick : Entry → Type 0
+NoTick e = (n : ℕ) → ticksAfter e n ≡ n
+
+-- from w, v and a burst that owes m + 1 pulses at distance g, with k ticks since its last front
+pub data Effect (S w v m g k : ℕ) (e : Entry) (l : Line) : Type 0 where
+  cancels : isNone (burstAsked e) ≡ 1 → Effect S w v m g k e l
+  stays : NoTick e → frontOf e ≡ None → l .since ≡ w → nextOf (l .tariff) ≡ v → l .burst ≡ Owing (suc m) g k → Effect S w v m g k e l
+  stops : NoTick e → frontOf e ≡ None → l .since ≡ w → nextOf (l .tariff) ≡ 0 → l .burst ≡ Owing (suc m) g k → Effect S w v m g k e l
+  begins : NoTick e → frontOf e ≡ None → isFresh (tariffAsked e) ≡ 1 → l .since ≡ w → l .burst ≡ Owing (suc m) g k → Effect S w v m g k e l
+  waiting : IsTick e → frontOf e ≡ None → (v ≡ 1 → ⊥) → Blocked S w g k v → l .since ≡ min S (w + 1) → nextOf (l .tariff) ≡ v - 1 → l .burst ≡ Owing (suc m) g (min g (k + 1)) → Effect S w v m g k e l
+  empty-due : IsTick e → frontOf e ≡ None → v ≡ 1 → ((nextOf (l .tariff) ≡ 0 → ⊥) → 2 * S ≤ nextOf (l .tariff)) → l .since ≡ min S (w + 1) → l .burst ≡ Owing (suc m) g (min g (k + 1)) → Effect S w v m g k e l
+  pulse-due : IsTick e → frontOf e ≡ TariffFront → v ≡ 1 → ((nextOf (l .tariff) ≡ 0 → ⊥) → 2 * S ≤ nextOf (l .tariff)) → l .since ≡ 0 → l .burst ≡ Owing (suc m) g (min g (k + 1)) → Effect S w v m g k e l
+  burst-due : IsTick e → frontOf e ≡ BurstFront → l .since ≡ 0 → l .burst ≡ Owing m g 0 → Effect S w v m g k e l
+
+-- ---- a tick
+-- why no burst pulse starts
+blocked-by : (S w g k v v′ : ℕ) (a b c : Bool) → v′ ≡ v - 1 → leb g (min g (k + 1)) ≡ a → leb S (min S (w + 1)) ≡ b → (eqb v′ 0 || leb S v′) ≡ c → (a && (b && c)) ≡ false → Blocked S w g k v
+blocked-by S w g k v v′ false b c e p q r h = own-near (let l = leb-false g (min g (k + 1)) p in omega arith)
+blocked-by S w g k v v′ true false c e p q r h = front-near (let l = leb-false S (min S (w + 1)) q in omega arith)
+blocked-by S w g k v v′ true true true e p q r h = absurd (let o : _≡_ {A = ℕ} 0 1 = cc in omega arith)
+blocked-by S w g k v v′ true true false e p q r h = by (eqb v′ 0) refl
+  where
+    by : (x : Bool) → eqb v′ 0 ≡ x → Blocked S w g k v
+    by true o = absurd (let f : true ≡ false = rw o at r in let z : _≡_ {A = ℕ} 0 1 = cc in omega arith)
+    by false o =
+        let f = leb-false S v′ (rw o at r) in
+        let d = eqb-false v′ 0 o in
+        slot-near (omega (arith, d)) (omega arith)
+
+-- the burst owes a pulse, so it is not complete
+aged-is : (D m g k : ℕ) → agedOf D (Owing (suc m) g k) ≡ record { burst = Owing (suc m) g (min g (k + 1)); complete = false }
+unfolding agedOf
+aged-is D m g k = rw (ne-eqb (suc m) 0 (λ z. omega arith))
+
+module _ (l : Line) (cfg : Config (l .pulse) (l .spacing)) (good : Good (l .spacing) (l .phases) (l .count) (l .tariff)) (m g k : ℕ) (owing : l .burst ≡ Owing (suc m) g k) where
+  abbrev pub S : ℕ
+  S = l .spacing
+
+  some : 1 ≤ S
+  some = omega arith
+
+  fits : Waits (l .pulse)
+  fits = record { some = omega arith; most = omega arith }
+
+  module _ (c : Call) (ticking : (n : ℕ) → ticksBy c n ≡ n + 1) where
+    abbrev t′ : Stepped
+    t′ = stepOf (l .pulse) (l .phases) (l .count) (l .tariff)
+
+    abbrev u′ : Aged
+    u′ = record { burst = Owing (suc m) g (min g (k + 1)); complete = false }
+
+    abbrev may-start : Bool
+    may-start = readyOf S (min S (l .since + 1)) (Owing (suc m) g (min g (k + 1))) (t′ .tariff)
+
+    abbrev TickEffect : Ticked → Type 0
+    TickEffect x = Effect S (l .since) (nextOf (l .tariff)) m g k (entry c (ticked (x .tick)) (x .line .clock) (onOf (x .line))) (x .line)
+
+    blocked : may-start ≡ false → nextOf (t′ .tariff) ≡ nextOf (l .tariff) - 1 → Blocked S (l .since) g k (nextOf (l .tariff))
+    unfolding readyOf
+    blocked h e =
+        blocked-by S (l .since) g k (nextOf (l .tariff)) (nextOf (t′ .tariff)) _ _ _ e refl refl
+        (sym (room-next S (l .phases) (l .count) (t′ .tariff) (good-step S (l .pulse) (l .phases) (l .count) some fits (l .tariff) good))) (rw (lt-ltb 0 (suc m) (omega arith)) at h)
+
+    by : (s : Slot) (may : Bool) → may-start ≡ may → Next S (nextOf (l .tariff)) (nextOf (t′ .tariff)) s → TickEffect (tickWithFront l t′ u′ (min S (l .since + 1)) (frontAt s may))
+    by NoSlot false h (waits p q) = waiting ticking refl p (blocked h q) refl q refl
+    by NoSlot true h (waits p q) = burst-due ticking refl refl (ap (λ (x : ℕ). Owing x g 0) (omega arith))
+    by Empty may h (empty p q) = empty-due ticking refl p q refl refl
+    by Pulse may h (pulse p q) = pulse-due ticking refl p q refl refl
+
+    with-aged : (x : Aged) → x ≡ u′ → TickEffect (tickBy l t′ x (heldMore S (l .since)))
+    with-aged x e = rw e (by (t′ .slot) may-start refl (next-step S (l .pulse) (l .phases) (l .count) some fits (l .tariff) good))
+
+    tick-effect : TickEffect (tickOf l)
+    unfolding tickOf
+    tick-effect = with-aged (agedOf (l .pulse) (l .burst)) (ap (agedOf (l .pulse)) owing ∙ aged-is (l .pulse) m g k)
+
+  -- ---- the other calls
+  abbrev pub EffectOf : Call → Outcome → Type 0
+  EffectOf c (outcome a l′) = Effect S (l .since) (nextOf (l .tariff)) m g k (entry c a (l′ .clock) (onOf l′)) l′
+
+  changed : (t : TariffPart) (ls : Lists) (b : BurstPart) (u : Ruling) → rulingOf l (describe t ls b) ≡ u →
+      EffectOf (describe t ls b) (answered (answeredBy u l (burstChanged b (tariffChanged t (tableWith (phasesOf ls)) l)) (cancelledBy b (owedBy (l .burst)))))
+  unfolding tariffChanged burstChanged
+  changed t ls b (TurnedDown r) e = stays (λ n. refl) refl refl refl owing
+  changed t ls NoBurst Allowed e = cancels refl
+  changed t ls (Start n P) Allowed e =
+      absurd (let running : isRunning (l .burst) ≡ true = rw owing refl in let idle = starts-idle S (isEndless (l .tariff)) (isRunning (l .burst)) t ls n P e in let o : _≡_ {A = ℕ} 0 1 = cc in omega arith)
+  changed NoTariff ls KeepBurst Allowed e = stops (λ n. refl) refl refl refl owing
+  changed KeepTariff ls KeepBurst Allowed e = stays (λ n. refl) refl refl refl owing
+  changed (Rate P) ls KeepBurst Allowed e = stays (λ n. refl) refl refl (next-rate P (l .tariff)) owing
+  changed (Em C P) ls KeepBurst Allowed e = begins (λ n. refl) refl refl refl owing
+  changed Phased ls KeepBurst Allowed e = begins (λ n. refl) refl refl refl owing
+
+  ruled : (n : ℕ) (u : Ruling) → EffectOf (period n) (answered (answeredBy u l (withPeriod l n) 0))
+  ruled n Allowed = stays (λ j. refl) refl refl refl owing
+  ruled n (TurnedDown r) = stays (λ j. refl) refl refl refl owing
+
+  pub effect : (c : Call) → EffectOf c (step l c)
+  unfolding step describeOf hookOf periodOf noPeriodOf auditOf
+  effect (describe t ls b) = changed t ls b (rulingOf l (describe t ls b)) refl
+  effect (hook Keep) = stays (λ n. refl) refl refl refl owing
+  effect (hook Stop) = cancels refl
+  effect (period n) = ruled n (rulingOf l (period n))
+  effect noPeriod = stays (λ n. refl) refl refl refl owing
+  effect audit = stays (λ n. refl) refl refl refl owing
+  effect tick = tick-effect tick (λ n. refl)
+  effect lentTick = tick-effect lentTick (λ n. refl)

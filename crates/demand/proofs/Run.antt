@@ -1,0 +1,132 @@
+-- A history with the line after it, call by call, and the coupling at each.
+use mathlib.Core.Path.{_≡_, refl, ap}
+use mathlib.Core.Bool.{Bool, true}
+use mathlib.Core.List.{List, [], _∷_, _++_}
+use Prim.Native.Nat.{ℕ, _+_, _%_, _^_, _<_}
+use native.Mathlib.Omega.{arith}
+use Rattle.tariff.specs.declared.Tariff.the-variants.{Idle}
+use Rattle.slots.specs.Running.{nothing, runsEndless}
+use Rattle.phase_lists.specs.Lists.{Lists, phasesOf}
+use Rattle.phase_lists.specs.Tables.{tableWith, noPhases}
+use Rattle.descriptor.specs.Refusals.{ruling}
+use Rattle.descriptor.specs.declared.Ruling.{Ruling}
+use Rattle.descriptor.specs.declared.Ruling.the-variants.{Allowed, TurnedDown}
+use Rattle.descriptor.specs.declared.TariffPart.{TariffPart}
+use Rattle.descriptor.specs.declared.TariffPart.the-variants.{None as NoTariff}
+use Rattle.descriptor.specs.declared.BurstPart.{BurstPart}
+use Rattle.descriptor.specs.declared.BurstPart.the-variants.{None as NoBurst}
+use Rattle.burst.specs.Bursts.{owedBy}
+use Rattle.burst.specs.declared.Burst.the-variants.{Idle as NoBurstRuns}
+use Rattle.line.specs.Rules.{cancelledBy}
+use Rattle.line.specs.Lines.{freshLine, describeOf, hookOf, periodOf, noPeriodOf, auditOf, onOf, answeredBy, tariffChanged, burstChanged, withPeriod, zeroCounters}
+use Rattle.line.specs.declared.Hook.the-variants.{Keep, Stop}
+use Rattle.line.specs.declared.Line.{Line}
+use Rattle.demand.specs.Calls.{Call, describe, hook, period, noPeriod, audit, tick, lentTick, Answer, accepted, counters, ticked, Entry, entry}
+use Rattle.demand.specs.History.{ticks, lastFront, burstIn, owed, burstRuns, running, total, sinceReport, periodIn, pulseOn, never, idle}
+use Rattle.demand.specs.Answers.{rulingAfter, answerAfter}
+use Rattle.demand.specs.Machine.{rulingOf, Outcome, outcome, answered, step, Past, past, noted, afterCalls, entries, lineAfter}
+use Rattle.slots.proofs.Fresh.{agree-idle}
+use Rattle.slots.proofs.Rate.{rate-runs}
+use Rattle.demand.proofs.Held.{held-on}
+use Rattle.demand.proofs.Coupled.{Config, At, line-at, Coupled, none}
+use Rattle.demand.proofs.Bursts.{owed-is, runs-is}
+use Rattle.demand.proofs.Commands.{tariff-at, burst-at, period-at}
+use Rattle.demand.proofs.Taken.{taken}
+use Rattle.demand.proofs.Ticks.{tick-at}
+
+module _ (D S clock : ℕ) (cfg : Config D S) where
+  -- what is read off a coupled line
+  module _ (h : List Entry) where
+    rulings-agree : {l : Line} → Coupled D S clock h l → (c : Call) → rulingOf l c ≡ rulingAfter D S h c
+    rulings-agree (line-at {t = t} {ps = ps} {n = n} {u = u} e before a g x y) c =
+        rw (rate-runs D ps n (running D S h) t (ticks h) a, ← runs-is D S cfg (ticks h) (burstIn h) u x)
+
+    owed-agrees : {l : Line} → Coupled D S clock h l → owedBy (l .burst) ≡ owed h
+    owed-agrees (line-at {u = u} e before a g x y) = owed-is D S cfg (ticks h) (burstIn h) u x
+
+    counters-agree : {l : Line} → Coupled D S clock h l → counters (l .counters .cpc) (l .counters .pcslr) ≡ counters (total h) (sinceReport h)
+    counters-agree (line-at e before a g x y) = refl
+
+    pub clock-agrees : {l : Line} → Coupled D S clock h l → l .clock ≡ (clock + ticks h) % 2 ^ 32
+    clock-agrees (line-at e before a g x y) = refl
+
+    pub on-agrees : {l : Line} → Coupled D S clock h l → onOf l ≡ pulseOn D (lastFront h) (ticks h)
+    unfolding onOf
+    on-agrees (line-at e before a g x y) = rw e (held-on S (ticks h) D (omega arith) (lastFront h) before)
+
+  -- a call's answer is the paper's, and the line after it is coupled
+  abbrev pub Right : List Entry → Call → Outcome → Type 0
+  Right h c (outcome a l) = (a ≡ answerAfter D S h c) × Coupled D S clock (entry c a (l .clock) (onOf l) ∷ h) l
+
+  module _ (h : List Entry) {l : Line} (x : Coupled D S clock h l) where
+    describe-right : (t : TariffPart) (ls : Lists) (b : BurstPart) (u : Ruling) → rulingAfter D S h (describe t ls b) ≡ u →
+        Right h (describe t ls b) (answered (answeredBy u l (burstChanged b (tariffChanged t (tableWith (phasesOf ls)) l)) (cancelledBy b (owedBy (l .burst)))))
+    unfolding answerAfter ticks lastFront burstIn running total sinceReport periodIn
+    describe-right t ls b Allowed e =
+        let both = taken S (runsEndless (running D S h)) (burstRuns D (burstIn h) (ticks h)) t ls b (running D S h) refl e in
+        (rw (e, owed-agrees h x), burst-at D S clock cfg (burstRuns D (burstIn h) (ticks h)) b (both .1) (tariff-at D S clock cfg t (phasesOf ls) (both .0) x))
+    describe-right t ls b (TurnedDown r) e = (rw e, x)
+
+    period-right : (n : ℕ) (u : Ruling) → rulingAfter D S h (period n) ≡ u → Right h (period n) (answered (answeredBy u l (withPeriod l n) 0))
+    unfolding answerAfter ticks lastFront burstIn running total sinceReport periodIn
+    period-right n Allowed e = (rw e, period-at D S clock cfg n x)
+    period-right n (TurnedDown r) e = (rw e, x)
+
+    pub step-right : (c : Call) → Right h c (step l c)
+    unfolding step describeOf hookOf periodOf noPeriodOf auditOf answerAfter ruling ticks lastFront burstIn running total sinceReport periodIn tariffChanged burstChanged
+    step-right (describe t ls b) = rw (rulings-agree h x (describe t ls b)) (describe-right t ls b (rulingAfter D S h (describe t ls b)) refl)
+    step-right (hook Keep) = (refl, x)
+    step-right (hook Stop) = (ap accepted (owed-agrees h x), burst-at D S clock cfg true NoBurst tt (tariff-at D S clock cfg NoTariff [] tt x))
+    step-right (period n) = rw (rulings-agree h x (period n)) (period-right n (rulingAfter D S h (period n)) refl)
+    step-right noPeriod = (refl, period-at D S clock cfg 0 x)
+    step-right audit = (counters-agree h x, x)
+    step-right tick = let k = tick-at D S clock cfg x in (ap ticked (k .0), k .1)
+    step-right lentTick = let k = tick-at D S clock cfg x in (ap ticked (k .0), k .1)
+
+  -- ---- histories
+  pub data Run : List Entry → Line → Type 0 where
+    begin : Run [] (freshLine D S clock)
+    more : {h : List Entry} {l l′ : Line} {c : Call} {a : Answer} → Run h l → step l c ≡ outcome a l′ → Run (entry c a (l′ .clock) (onOf l′) ∷ h) l′
+
+  -- a fresh line, whose clock fits 32 bits
+  fresh-at : (k : ℕ) → k ≡ (clock + 0) % 2 ^ 32 →
+      At D S clock 0 never idle nothing 0 0 0 (record { pulse = D; spacing = S; clock = k; since = S; tariff = Idle; phases = noPhases; count = 0; burst = NoBurstRuns; counters = zeroCounters 0 })
+  fresh-at k e = rw e (line-at {w = S} {t = Idle} {ps = noPhases} {n = 0} refl tt (agree-idle D noPhases 0 0) tt none (λ z. absurd (z refl)))
+
+  right-of : (h : List Entry) (c : Call) {a : Answer} {l′ : Line} (o : Outcome) → o ≡ outcome a l′ → Right h c o → Right h c (outcome a l′)
+  right-of h c o e x = rw e at x
+
+  module _ (small : clock < 2 ^ 32) where
+    pub coupled : {h : List Entry} {l : Line} → Run h l → Coupled D S clock h l
+    unfolding ticks lastFront burstIn running total sinceReport periodIn freshLine
+    coupled begin = fresh-at clock (omega arith)
+    coupled (more {h = h} {l = l} {c = c} r e) = right-of h c (step l c) e (step-right h (coupled r) c) .1
+
+    pub answer-right : {h : List Entry} {l : Line} {c : Call} {a : Answer} {k : ℕ} {on : Bool} → Run (entry c a k on ∷ h) l → a ≡ answerAfter D S h c
+    answer-right (more {h = h} {l = l} {c = c} r e) = right-of h c (step l c) e (step-right h (coupled r) c) .0
+
+  -- ---- the history of a list of calls is such a run, and so is each part of it from the start on
+  abbrev Runs : Past → Type 0
+  Runs (past h l) = Run h l
+
+  run-call : (h : List Entry) (l : Line) (c : Call) (o : Outcome) → step l c ≡ o → Run h l → Runs (noted h c o)
+  run-call h l c (outcome a l′) e r = more r e
+
+  run-calls : (p : Past) (cs : List Call) → Runs p → Runs (afterCalls p cs)
+  unfolding afterCalls
+  run-calls p [] r = r
+  run-calls (past h l) (c ∷ cs) r = run-calls (noted h c (step l c)) cs (run-call h l c (step l c) refl r)
+
+  run-of : (p : Past) → Runs p → Run (entries p) (lineAfter p)
+  run-of (past h l) r = r
+
+  pub run-history : (cs : List Call) → Run (entries (afterCalls (past [] (freshLine D S clock)) cs)) (lineAfter (afterCalls (past [] (freshLine D S clock)) cs))
+  run-history cs = run-of (afterCalls (past [] (freshLine D S clock)) cs) (run-calls (past [] (freshLine D S clock)) cs begin)
+
+  pub cut : {l : Line} (a h : List Entry) → Run (a ++ h) l → (l′ : Line) × Run h l′
+  cut {l} [] h r = (l, r)
+  cut (e ∷ a) h (more r q) = cut a h r
+
+  -- an entry reads the line that its call hands back or leaves
+  pub reads : {h : List Entry} {l : Line} {c : Call} {a : Answer} {k : ℕ} {on : Bool} → Run (entry c a k on ∷ h) l → (k ≡ l .clock) × (on ≡ onOf l)
+  reads (more r e) = (refl, refl)

@@ -1,0 +1,83 @@
+-- Every burst pulse that was accepted was begun, was reported cancelled, or is owed.
+use mathlib.Core.Path.{_≡_, refl}
+use mathlib.Core.Bool.{Bool, true, false, and-eq-true-iff}
+use mathlib.Core.List.{List}
+use Prim.Native.Nat.{ℕ, _+_, _-_, _^_, max, _<_}
+use native.Mathlib.Omega.{arith}
+use borrow.Author.Tests.{ltb-true, ltb-false}
+use lib.Dec.{ltb}
+use Rattle.tariff.specs.declared.Slot.{Slot}
+use Rattle.tariff.specs.declared.Slot.the-variants.{None as NoSlot, Empty, Pulse}
+use Rattle.slots.specs.Running.{slotAt, runsEndless}
+use Rattle.descriptor.specs.declared.Ruling.the-variants.{Allowed, TurnedDown}
+use Rattle.descriptor.specs.declared.BurstPart.{BurstPart}
+use Rattle.descriptor.specs.declared.BurstPart.the-variants.{None as NoBurst, Keep as KeepBurst, Start}
+use Rattle.line.specs.Rules.{cancelledBy, frontAt}
+use Rattle.line.specs.Lines.{onOf}
+use Rattle.line.specs.declared.Hook.the-variants.{Keep, Stop}
+use Rattle.line.specs.declared.Front.the-variants.{None, Burst as BurstFront}
+use Rattle.line.specs.declared.Line.{Line}
+use Rattle.demand.specs.Calls.{Call, describe, hook, period, noPeriod, audit, tick, lentTick, Answer, Entry, entry, burstPart}
+use Rattle.demand.specs.History.{burstAsked, frontOf, cancelledOf, startedBy, isBurstFront, sum, ticks, acceptedPulses, begun, cancelled, at, passed, Started, idle, started, begunBy, burstBy, burstIn, owedOf, owed, burstRuns, burstReady, running}
+use Rattle.demand.specs.Answers.{rulingAfter, burstMayStart}
+use Rattle.demand.proofs.Coupled.{Config}
+use Rattle.demand.proofs.Taken.{starts-idle}
+use Rattle.demand.proofs.AnswerKinds.{Kind, to-command, to-audit, to-tick, kind}
+use Rattle.demand.proofs.Run.{Run, begin, more, answer-right}
+
+-- a burst that does not run owes nothing
+idle-owes : (D : ℕ) (b : Started) (now : ℕ) → burstRuns D b now ≡ false → owedOf b ≡ 0
+idle-owes D idle now h = refl
+idle-owes D (started n P k last) now h = by (ltb k n) refl
+  where
+    by : (x : Bool) → ltb k n ≡ x → n - k ≡ 0
+    by true e = absurd (let f : true ≡ false = rw e at h in let o : _≡_ {A = ℕ} 0 1 = cc in omega arith)
+    by false e = let l = ltb-false k n e in omega arith
+
+-- a burst pulse that begins is one less owed
+begun-owes : (S now : ℕ) (b : Started) → burstReady S b now ≡ true → owedOf b ≡ 1 + owedOf (begunBy BurstFront now b)
+begun-owes S now idle h = absurd (let o : _≡_ {A = ℕ} 0 1 = cc in omega arith)
+begun-owes S now (started n P k last) h =
+    let l = ltb-true k n (and-eq-true-iff (ltb k n) (passed (max P S) last now) .0 h .0) in
+    omega arith
+
+-- what an entry adds to each count of the sum, where b is the burst before it
+abbrev Balanced : Entry → ℕ → Started → Type 0
+Balanced e now b = startedBy (burstAsked e) + owedOf b ≡ isBurstFront (frontOf e) + cancelledOf e + owedOf (burstBy (burstAsked e) (frontOf e) now b)
+
+module _ (D S : ℕ) (h : List Entry) (k : ℕ) (on : Bool) where
+  -- a start is allowed only where nothing is owed
+  start-owes : (c : Call) (n P : ℕ) → rulingAfter D S h c ≡ Allowed → burstPart c ≡ Start n P → owed h ≡ 0
+  start-owes (describe t ls b) n P e f =
+      idle-owes D (burstIn h) (ticks h) (starts-idle S (runsEndless (running D S h)) (burstRuns D (burstIn h) (ticks h)) t ls n P (rw f at e))
+  start-owes (hook Keep) n P e f = absurd (let o : _≡_ {A = ℕ} 0 1 = cc in omega arith)
+  start-owes (hook Stop) n P e f = absurd (let o : _≡_ {A = ℕ} 0 1 = cc in omega arith)
+  start-owes (period m) n P e f = absurd (let o : _≡_ {A = ℕ} 0 1 = cc in omega arith)
+  start-owes noPeriod n P e f = absurd (let o : _≡_ {A = ℕ} 0 1 = cc in omega arith)
+  start-owes audit n P e f = absurd (let o : _≡_ {A = ℕ} 0 1 = cc in omega arith)
+  start-owes tick n P e f = absurd (let o : _≡_ {A = ℕ} 0 1 = cc in omega arith)
+  start-owes lentTick n P e f = absurd (let o : _≡_ {A = ℕ} 0 1 = cc in omega arith)
+
+  part-owes : (b : BurstPart) → ((n P : ℕ) → b ≡ Start n P → owed h ≡ 0) → startedBy b + owed h ≡ 0 + cancelledBy b (owed h) + owedOf (burstBy b None (ticks h + 1) (burstIn h))
+  part-owes NoBurst start = omega arith
+  part-owes KeepBurst start = omega arith
+  part-owes (Start n P) start = let z = start n P refl in omega arith
+
+  front-owes : (s : Slot) (may : Bool) (b : Started) → (may ≡ true → burstReady S b (ticks h + 1) ≡ true) → owedOf b ≡ isBurstFront (frontAt s may) + owedOf (begunBy (frontAt s may) (ticks h + 1) b)
+  front-owes NoSlot true b r = begun-owes S (ticks h + 1) b (r refl)
+  front-owes NoSlot false b r = omega arith
+  front-owes Empty may b r = omega arith
+  front-owes Pulse may b r = omega arith
+
+  balanced : (c : Call) (a : Answer) → Kind D S h c a → Balanced (entry c a k on) (ticks h + 1) (burstIn h)
+  balanced c a (to-command Allowed e) = part-owes (burstPart c) (λ n P f. start-owes c n P e f)
+  balanced c a (to-command (TurnedDown r) e) = omega arith
+  balanced c a to-audit = omega arith
+  balanced c a (to-tick t) =
+      omega (arith, front-owes (slotAt (running D S h) (ticks h + 1)) (burstMayStart D S h (ticks h + 1)) (burstIn h) (λ e. and-eq-true-iff (burstReady S (burstIn h) (ticks h + 1)) _ .0 e .0))
+
+module _ (D S clock : ℕ) (cfg : Config D S) (small : clock < 2 ^ 32) where
+  pub sum-run : {h : List Entry} {l : Line} → Run D S clock cfg h l → acceptedPulses h ≡ begun h + cancelled h + owed h
+  unfolding sum burstIn
+  sum-run begin = refl
+  sum-run (more {h = h} {l′ = l} {c = c} {a = a} r q) = omega (arith, sum-run r, balanced D S h (l .clock) (onOf l) c a (kind D S h c (answer-right D S clock cfg small (more r q))))

@@ -1,0 +1,147 @@
+-- A tick keeps the coupling, and tells what the paper has it tell.
+use mathlib.Core.Path.{_≡_, refl, sym, ap, _∙_}
+use mathlib.Core.Bool.{Bool, true, false, cond, _&&_, _||_, and-eq-true-iff}
+use mathlib.Core.List.{List}
+use Prim.Native.Nat.{ℕ, _+_, _-_, _%_, _^_, _≤_}
+use native.Mathlib.Omega.{arith}
+use borrow.Author.Tests.{leb-true, eqb-true}
+use lib.Dec.{leb, eqb}
+use Rattle.tariff.specs.Steps.{stepOf, roomOf}
+use Rattle.tariff.specs.declared.Phase.{Phase}
+use Rattle.tariff.specs.declared.Tariff.{Tariff}
+use Rattle.tariff.specs.declared.Slot.{Slot}
+use Rattle.tariff.specs.declared.Slot.the-variants.{None as NoSlot, Empty, Pulse}
+use Rattle.tariff.specs.declared.Stepped.{Stepped}
+use Rattle.slots.specs.Running.{Running, nothing, slotAt, completesAt, quietFor}
+use Rattle.burst.specs.Bursts.{heldMore, agedOf, readyOf, begunOf}
+use Rattle.burst.specs.declared.Burst.{Burst}
+use Rattle.burst.specs.declared.Aged.{Aged}
+use Rattle.line.specs.Rules.{oneMore, reportDue, frontAt}
+use Rattle.line.specs.Lines.{countOf, tickWithFront, tickOf}
+use Rattle.line.specs.declared.Front.{Front}
+use Rattle.line.specs.declared.Count.{Count}
+use Rattle.line.specs.declared.Line.{Line}
+use Rattle.line.specs.declared.Tick.{Tick}
+use Rattle.demand.specs.History.{Last, at, passed, Started, lastBy, begunBy, burstCompletes, burstReady, countBy}
+use Rattle.demand.specs.Answers.{reportAt}
+use Rattle.slots.proofs.Ahead.{nextOf, Waits, Good}
+use Rattle.slots.proofs.Agree.{Agree, Next, waits, empty, pulse}
+use Rattle.slots.proofs.Tick.{good-step, next-step}
+use Rattle.slots.proofs.Coupling.{agree-now, agree-complete, agree-tick, runs-on}
+use Rattle.slots.proofs.Room.{room-next, agree-room}
+use Rattle.demand.proofs.Held.{heldSince, Before, before-more, held-more}
+use Rattle.demand.proofs.Coupled.{Config, Apart, BurstAt, At, line-at}
+use Rattle.demand.proofs.Bursts.{burst-aged, burst-ready, burst-begun}
+
+-- the counters after a front, without a branch
+count-is : (cpc pcslr rp : ℕ) → countOf (record { cpc = cpc; pcslr = pcslr; rp = rp }) ≡
+    record { counters = record { cpc = oneMore cpc; pcslr = cond (reportDue rp (oneMore pcslr)) 0 (oneMore pcslr); rp = rp }; report = reportDue rp (oneMore pcslr) }
+unfolding countOf
+count-is cpc pcslr rp = by (reportDue rp (oneMore pcslr))
+  where
+    by : (due : Bool) →
+        _≡_ {A = Count}
+        (cond due (record { counters = record { cpc = oneMore cpc; pcslr = 0; rp = rp }; report = true }) (record { counters = record { cpc = oneMore cpc; pcslr = oneMore pcslr; rp = rp }; report = false }))
+        (record { counters = record { cpc = oneMore cpc; pcslr = cond due 0 (oneMore pcslr); rp = rp }; report = due })
+    by true = refl
+    by false = refl
+
+-- no slot is left, or the next is far enough
+room-says : (S v : ℕ) → (eqb v 0 || leb S v) ≡ true → (v ≡ 0 → ⊥) → S ≤ v
+room-says S v h z = by (eqb v 0) refl
+  where
+    by : (x : Bool) → eqb v 0 ≡ x → S ≤ v
+    by true e = absurd (z (eqb-true v 0 e))
+    by false e = leb-true S v (rw e at h)
+
+module _ (D S clock : ℕ) (cfg : Config D S) where
+  -- what a tick after i others tells, by what the history says before it
+  abbrev pub tickTold : ℕ → Last → Started → Running → ℕ → ℕ → Front → Tick
+  tickTold i last b r pcslr rp f =
+      record { tariff = completesAt D r (i + 1); burst = burstCompletes D b (i + 1); front = f; report = reportAt f rp pcslr }
+
+  abbrev pub frontDue : ℕ → Last → Started → Running → Front
+  frontDue i last b r = frontAt (slotAt r (i + 1)) (burstReady S b (i + 1) && (passed S last (i + 1) && quietFor r (i + 1) (S - 1)))
+
+  abbrev pub After : ℕ → Last → Started → Running → ℕ → ℕ → ℕ → Tick → Line → Type 0
+  After i last b r cpc pcslr rp k l =
+      At D S clock (i + 1) (lastBy (k .front) (i + 1) last) (begunBy (k .front) (i + 1) b) (cond (completesAt D r (i + 1)) nothing r) (countBy (k .front) cpc) (cond (k .report) 0 (countBy (k .front) pcslr)) rp l
+
+  module _ (i : ℕ) (last : Last) (b : Started) (r : Running) (cpc pcslr rp : ℕ) (t : Tariff) (ps : List Phase) (n : ℕ) (u : Burst)
+      (w : ℕ) (held : w ≡ heldSince S last i) (before : Before last i) (a : Agree D ps n r t i) (g : Good S ps n t) (x : BurstAt D S i b u) (y : Apart S w (nextOf t)) where
+    some : 1 ≤ S
+    some = omega arith
+
+    fits : Waits D
+    fits = record { some = omega arith; most = omega arith }
+
+    abbrev t′ : Stepped
+    t′ = stepOf D ps n t
+
+    abbrev u′ : Aged
+    u′ = agedOf D u
+
+    abbrev now : ℕ
+    now = heldMore S w
+
+    now-is : now ≡ heldSince S last (i + 1)
+    now-is = ap (heldMore S) held ∙ held-more S i last before
+
+    abbrev before-tick : Line
+    before-tick =
+        record { pulse = D; spacing = S; clock = (clock + i) % 2 ^ 32; since = w; tariff = t; phases = ps; count = n; burst = u; counters = record { cpc = cpc; pcslr = pcslr; rp = rp } }
+
+    clock-more : ((clock + i) % 2 ^ 32 + 1) % 2 ^ 32 ≡ (clock + (i + 1)) % 2 ^ 32
+    clock-more = omega arith
+
+    abbrev may-start : Bool
+    may-start = readyOf S now (u′ .burst) (t′ .tariff)
+
+    ready-is : may-start ≡ (burstReady S b (i + 1) && (passed S last (i + 1) && roomOf S (t′ .tariff)))
+    ready-is = burst-ready D S cfg (i + 1) b (u′ .burst) (burst-aged D S cfg i b u x .1) last (before-more last i before) now now-is (t′ .tariff)
+
+    room-is : may-start ≡ true → (nextOf (t′ .tariff) ≡ 0 → ⊥) → S ≤ nextOf (t′ .tariff)
+    room-is h =
+        room-says S (nextOf (t′ .tariff))
+        (sym (room-next S ps n (t′ .tariff) (good-step S D ps n some fits t g)) ∙ and-eq-true-iff (passed S last (i + 1)) _ .0 (and-eq-true-iff (burstReady S b (i + 1)) _ .0 (sym ready-is ∙ h) .1) .1)
+
+    -- by the slot that is due and whether a burst pulse may start
+    by : (s : Slot) (may : Bool) → Next S (nextOf t) (nextOf (t′ .tariff)) s → (may ≡ true → burstReady S b (i + 1) ≡ true) → (may ≡ true → (nextOf (t′ .tariff) ≡ 0 → ⊥) → S ≤ nextOf (t′ .tariff)) →
+        let k = tickWithFront before-tick t′ u′ now (frontAt s may) in
+        (k .tick ≡ tickTold i last b r pcslr rp (frontAt s may)) × After i last b r cpc pcslr rp (k .tick) (k .line)
+    by NoSlot false (waits p q) h z =
+        rw (← agree-complete S D ps n some fits r t i g a, ← burst-aged D S cfg i b u x .0, clock-more) (
+          refl,
+          line-at {w = now} {t = t′ .tariff} {ps = ps} {n = n} {u = u′ .burst} now-is (before-more last i before) (agree-tick S D ps n some fits r t i g a) (good-step S D ps n some fits t g) (burst-aged D S cfg i b u x .1)
+              (λ e. let l = y (λ o. e (omega arith)) in omega arith),
+        )
+    by NoSlot true (waits p q) h z =
+        rw (← agree-complete S D ps n some fits r t i g a, ← burst-aged D S cfg i b u x .0, clock-more, count-is cpc pcslr rp) (
+          refl,
+          line-at {w = 0} {t = t′ .tariff} {ps = ps} {n = n} {u = begunOf (u′ .burst)} (omega arith) (omega arith) (agree-tick S D ps n some fits r t i g a) (good-step S D ps n some fits t g)
+              (burst-begun D S cfg (i + 1) b (u′ .burst) (burst-aged D S cfg i b u x .1) (h refl)) (λ e. let l = z refl e in omega arith),
+        )
+    by Empty may (empty p q) h z =
+        rw (← agree-complete S D ps n some fits r t i g a, ← burst-aged D S cfg i b u x .0, clock-more) (
+          refl,
+          line-at {w = now} {t = t′ .tariff} {ps = ps} {n = n} {u = u′ .burst} now-is (before-more last i before) (agree-tick S D ps n some fits r t i g a) (good-step S D ps n some fits t g) (burst-aged D S cfg i b u x .1)
+              (λ e. let l = q e in omega arith),
+        )
+    by Pulse may (pulse p q) h z =
+        rw (← agree-complete S D ps n some fits r t i g a, ← burst-aged D S cfg i b u x .0, clock-more, count-is cpc pcslr rp) (
+          refl,
+          line-at {w = 0} {t = t′ .tariff} {ps = ps} {n = n} {u = u′ .burst} (omega arith) (omega arith) (agree-tick S D ps n some fits r t i g a) (good-step S D ps n some fits t g) (burst-aged D S cfg i b u x .1)
+              (λ e. let l = q e in omega arith),
+        )
+
+    both : let k = tickWithFront before-tick t′ u′ now (frontAt (t′ .slot) may-start) in
+        (k .tick ≡ tickTold i last b r pcslr rp (frontDue i last b r)) × After i last b r cpc pcslr rp (k .tick) (k .line)
+    both =
+        rw (agree-now S D ps n some fits r t i g a, agree-room S D ps n r (t′ .tariff) (i + 1) (good-step S D ps n some fits t g) (runs-on S D ps n some fits r t i g a), ← ready-is)
+        (by (t′ .slot) may-start (next-step S D ps n some fits t g) (λ h. and-eq-true-iff (burstReady S b (i + 1)) _ .0 (sym ready-is ∙ h) .0) room-is)
+
+  pub tick-at : {i : ℕ} {last : Last} {b : Started} {r : Running} {cpc pcslr rp : ℕ} {l : Line} → At D S clock i last b r cpc pcslr rp l →
+      (tickOf l .tick ≡ tickTold i last b r pcslr rp (frontDue i last b r)) × After i last b r cpc pcslr rp (tickOf l .tick) (tickOf l .line)
+  unfolding tickOf
+  tick-at {i} {last} {b} {r} {cpc} {pcslr} {rp} (line-at {w = w} {t = t} {ps = ps} {n = n} {u = u} e before a g x y) =
+      both i last b r cpc pcslr rp t ps n u w e before a g x y

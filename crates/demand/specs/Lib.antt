@@ -1,0 +1,7 @@
+-- The files of this folder, lowest first.
+pub mod Calls
+pub mod History
+pub mod Answers
+pub mod Machine
+pub mod Demand
+pub mod Examples

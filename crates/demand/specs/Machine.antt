@@ -1,0 +1,70 @@
+-- The history of a list of calls, each made on the line that the one before handed back or left.
+use mathlib.Core.List.{List, [], _∷_}
+use Prim.Native.Nat.{ℕ}
+use Rattle.tariff.specs.Steps.{isEndless}
+use Rattle.descriptor.specs.Refusals.{numberOf, ruling}
+use Rattle.descriptor.specs.declared.Ruling.{Ruling}
+use Rattle.burst.specs.Bursts.{isRunning}
+use Rattle.line.specs.Lines.{makeOf, describeOf, hookOf, periodOf, noPeriodOf, auditOf, tickOf, onOf}
+use Rattle.line.specs.declared.Line.{Line}
+use Rattle.line.specs.declared.Verdict.{Verdict}
+use Rattle.line.specs.declared.Verdict.the-variants.{Accepted, Refused}
+use Rattle.line.specs.declared.Answered.{Answered}
+use Rattle.line.specs.declared.Audited.{Audited}
+use Rattle.line.specs.declared.Ticked.{Ticked}
+use Rattle.demand.specs.Calls.{Call, describe, hook, period, noPeriod, audit, tick, lentTick, Answer, accepted, refused, counters, ticked, Entry, entry, causes}
+
+-- the number and the value of each case of a verdict
+abbrev pub verdictTold : Verdict → Answer
+verdictTold (Accepted k) = accepted k
+verdictTold (Refused r) = refused (numberOf r)
+
+-- a call's answer and the line after it
+pub data Outcome : Type 0 where
+  outcome : Answer → Line → Outcome
+
+abbrev pub answered : Answered → Outcome
+answered r = outcome (verdictTold (r .verdict)) (r .line)
+
+abbrev pub audited : Audited → Outcome
+audited r = outcome (counters (r .cpc) (r .pcslr)) (r .line)
+
+abbrev pub moved : Ticked → Outcome
+moved r = outcome (ticked (r .tick)) (r .line)
+
+unfoldable pub step : Line → Call → Outcome
+step l (describe t ls b) = answered (describeOf l t ls b)
+step l (hook k) = answered (hookOf l k)
+step l (period n) = answered (periodOf l n)
+step l noPeriod = answered (noPeriodOf l)
+step l audit = audited (auditOf l)
+step l tick = moved (tickOf l)
+step l lentTick = moved (tickOf l)
+
+-- what the table of refusals makes of a call on this line
+abbrev pub rulingOf : Line → Call → Ruling
+rulingOf l c = ruling (causes (l .spacing) (isEndless (l .tariff)) (isRunning (l .burst)) c)
+
+-- a history, newest first, and the line after it
+pub data Past : Type 0 where
+  past : List Entry → Line → Past
+
+abbrev pub noted : List Entry → Call → Outcome → Past
+noted h c (outcome a l) = past (entry c a (l .clock) (onOf l) ∷ h) l
+
+abbrev pub afterCall : Past → Call → Past
+afterCall (past h l) c = noted h c (step l c)
+
+unfoldable pub afterCalls : Past → List Call → Past
+afterCalls p [] = p
+afterCalls p (c ∷ cs) = afterCalls (afterCall p c) cs
+
+abbrev pub entries : Past → List Entry
+entries (past h l) = h
+
+abbrev pub lineAfter : Past → Line
+lineAfter (past h l) = l
+
+-- from a line of pulse length D and gap G, as it is made
+unfoldable pub history : ℕ → ℕ → ℕ → List Call → List Entry
+history D G clock cs = entries (afterCalls (past [] (makeOf D G clock .line)) cs)

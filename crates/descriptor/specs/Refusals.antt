@@ -1,0 +1,65 @@
+-- What is turned down: the table of the paper, 1 to 8, in ascending order.
+use mathlib.Core.Bool.{Bool, cond, not, _&&_}
+use mathlib.Core.List.{List, [], _∷_, _++_}
+use Prim.Native.Nat.{ℕ}
+use lib.Dec.{eqb}
+use Rattle.tariff.specs.Rules.{within, soundEm, soundPhases}
+use Rattle.phase_lists.specs.Lists.{Lists, phasesOf, soundLists}
+use Rattle.descriptor.specs.declared.TariffPart.{TariffPart}
+use Rattle.descriptor.specs.declared.TariffPart.the-variants.{None as NoTariff, Keep as KeepTariff, Rate, Em, Phased}
+use Rattle.descriptor.specs.declared.BurstPart.{BurstPart}
+use Rattle.descriptor.specs.declared.BurstPart.the-variants.{None as NoBurst, Keep as KeepBurst, Start}
+use Rattle.descriptor.specs.declared.Refusal.{Refusal}
+use Rattle.descriptor.specs.declared.Ruling.{Ruling}
+use Rattle.descriptor.specs.declared.Ruling.the-variants.{Allowed, TurnedDown}
+use Rattle.descriptor.specs.declared.Refusal.the-variants.{Configuration, Period, NoEndlessEm, Interval, Lists as PhaseLists, Phase, Burst, BurstRuns}
+
+-- the paper's number of each cause
+abbrev pub numberOf : Refusal → ℕ
+numberOf Configuration = 1
+numberOf Period = 2
+numberOf NoEndlessEm = 3
+numberOf Interval = 4
+numberOf PhaseLists = 5
+numberOf Phase = 6
+numberOf Burst = 7
+numberOf BurstRuns = 8
+
+-- a cause to refuse a call, and whether it applies
+pub data Cause : Type 0 where
+  cause : Refusal → Bool → Cause
+
+-- the lowest number that applies: causes stand in ascending order
+unfoldable pub ruling : List Cause → Ruling
+ruling [] = Allowed
+ruling (cause r applies ∷ rest) = cond applies (TurnedDown r) (ruling rest)
+
+-- D and G, each 1 to 500
+abbrev pub soundConfiguration : ℕ → ℕ → Bool
+soundConfiguration D G = within 1 500 D && within 1 500 G
+
+-- burst n 1 to 65,535 and P 1 to 60,000
+abbrev pub soundBurst : ℕ → ℕ → Bool
+soundBurst n P = within 1 65535 n && within 1 60000 P
+
+-- on a line of spacing S: whether an em with C = 0 runs, and whether a burst runs
+module _ (S : ℕ) (endlessRuns burstRuns : Bool) where
+  abbrev pub tariffCauses : TariffPart → Lists → List Cause
+  tariffCauses NoTariff ls = []
+  tariffCauses KeepTariff ls = []
+  tariffCauses (Rate P) ls = cause NoEndlessEm (not endlessRuns) ∷ cause Interval (not (soundEm S 0 P)) ∷ []
+  tariffCauses (Em C P) ls = cause Interval (not (soundEm S C P)) ∷ []
+  tariffCauses Phased ls = cause PhaseLists (not (soundLists ls)) ∷ cause Phase (not (soundPhases S (phasesOf ls))) ∷ []
+
+  abbrev pub burstCauses : BurstPart → List Cause
+  burstCauses NoBurst = []
+  burstCauses KeepBurst = []
+  burstCauses (Start n P) = cause Burst (not (soundBurst n P)) ∷ cause BurstRuns burstRuns ∷ []
+
+  -- those of the burst part stand after those of the tariff part
+  abbrev pub descriptorCauses : TariffPart → Lists → BurstPart → List Cause
+  descriptorCauses t ls b = tariffCauses t ls ++ burstCauses b
+
+-- a report period of 0 is refused
+abbrev pub periodCauses : ℕ → List Cause
+periodCauses n = cause Period (eqb n 0) ∷ []

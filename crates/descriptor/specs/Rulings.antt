@@ -1,0 +1,51 @@
+-- The table of refusals as the code goes through it, with the phase lists read into a table.
+use mathlib.Core.Bool.{Bool, cond}
+use Prim.Native.Nat.{ℕ}
+use lib.ListN.{take}
+use Rattle.tariff.specs.Rules.{soundEm, soundPhases}
+use Rattle.phase_lists.specs.Lists.{Lists}
+use Rattle.phase_lists.specs.Tables.{noTable, tableOf}
+use Rattle.phase_lists.specs.declared.PhaseTable.{PhaseTable}
+use Rattle.descriptor.specs.Refusals.{soundBurst}
+use Rattle.descriptor.specs.declared.TariffPart.{TariffPart}
+use Rattle.descriptor.specs.declared.TariffPart.the-variants.{None as NoTariff, Keep as KeepTariff, Rate, Em, Phased}
+use Rattle.descriptor.specs.declared.BurstPart.{BurstPart}
+use Rattle.descriptor.specs.declared.BurstPart.the-variants.{None as NoBurst, Keep as KeepBurst, Start}
+use Rattle.descriptor.specs.declared.Refusal.the-variants.{NoEndlessEm, Interval, Lists as PhaseLists, Phase as BadPhase, Burst, BurstRuns}
+use Rattle.descriptor.specs.declared.Ruling.{Ruling}
+use Rattle.descriptor.specs.declared.Ruling.the-variants.{Allowed, TurnedDown}
+
+-- the lists are looked at only where the tariff part is phased
+abbrev pub tableFor : TariffPart → Lists → PhaseTable
+tableFor NoTariff ls = noTable
+tableFor KeepTariff ls = noTable
+tableFor (Rate P) ls = noTable
+tableFor (Em C P) ls = noTable
+tableFor Phased ls = tableOf ls
+
+abbrev pub ruledBy : Ruling → Bool → Ruling → Ruling
+ruledBy why sound rest = cond sound rest why
+
+-- on a line of spacing S, where e says whether an em with C = 0 runs
+unfoldable pub tariffRuling : ℕ → Bool → TariffPart → PhaseTable → Ruling
+tariffRuling S e NoTariff t = Allowed
+tariffRuling S e KeepTariff t = Allowed
+tariffRuling S e (Rate P) t = ruledBy (TurnedDown NoEndlessEm) e (ruledBy (TurnedDown Interval) (soundEm S 0 P) Allowed)
+tariffRuling S e (Em C P) t = ruledBy (TurnedDown Interval) (soundEm S C P) Allowed
+tariffRuling S e Phased t =
+    ruledBy (TurnedDown PhaseLists) (t .sound) (ruledBy (TurnedDown BadPhase) (soundPhases S (take (t .count) (t .phases))) Allowed)
+
+-- where running says whether a burst runs
+unfoldable pub burstRuling : Bool → BurstPart → Ruling
+burstRuling running NoBurst = Allowed
+burstRuling running KeepBurst = Allowed
+burstRuling running (Start n P) = ruledBy (TurnedDown Burst) (soundBurst n P) (cond running (TurnedDown BurstRuns) Allowed)
+
+-- a ruling, or where that is allowed the next
+abbrev pub andThen : Ruling → Ruling → Ruling
+andThen Allowed next = next
+andThen (TurnedDown r) next = TurnedDown r
+
+-- of a descriptor whose phases, if it is phased, are in the table
+abbrev pub descriptorRuling : ℕ → Bool → Bool → TariffPart → PhaseTable → BurstPart → Ruling
+descriptorRuling S e running t table b = andThen (tariffRuling S e t table) (burstRuling running b)

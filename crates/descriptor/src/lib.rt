@@ -1,0 +1,41 @@
+// A descriptor: its parts, its table of phases, and what the table of refusals makes of it.
+mod refusals;
+mod tables;
+
+pub use refusals::ruling_on;
+pub use refusals::sound_configuration;
+pub use tables::phases_for;
+
+// The tariff part of a descriptor. The lists of a phased tariff stand beside it.
+pub enum TariffPart {
+    None,
+    Keep,
+    Rate { interval: u32 },
+    Em { count: u32, period: u32 },
+    Phased,
+}
+
+// The burst part of a descriptor.
+pub enum BurstPart {
+    None,
+    Keep,
+    Start { pulses: u32, interval: u32 },
+}
+
+// Why a call was turned down.
+pub enum Refusal {
+    Configuration,
+    Period,
+    NoEndlessEm,
+    Interval,
+    Lists,
+    Phase,
+    Burst,
+    BurstRuns,
+}
+
+// What the table of refusals makes of a call.
+pub enum Ruling {
+    Allowed,
+    TurnedDown(Refusal),
+}

@@ -1,0 +1,14 @@
+// A tick on a line record that its caller lends.
+ghost use mathlib.Core.Path.{_≡_};
+ghost use Rattle.line.specs.Lines.{tickOf};
+use line::Line;
+use line::Tick;
+
+// One tick of a lent line, which is moved on where it is held.
+pub fn tick_in_place(line: &mut Line) -> Tick
+    ensures { λ r. ⌜ (r ≡ tickOf (now (line .entry)) .tick) × (now (line .exit) ≡ tickOf (now (line .entry)) .line) ⌝ }
+{
+    let t = (*line).tick();
+    *line = t.line;
+    t.tick
+}

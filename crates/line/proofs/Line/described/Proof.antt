@@ -1,0 +1,49 @@
+-- `Line::described` meets its contract.
+use Rattle.line.proofs.Line.described.Statement.{statement}
+use borrow.Author.Needs.{needs}
+use Rattle.line.proofs.Line.described.Tie as tie
+
+ruling-requires : tie.Need-ruling-requires
+ruling-requires c κs = search needs
+
+enum-known-ruling : tie.Need-enum-known-ruling
+enum-known-ruling c = search needs
+
+enum-told : tie.Need-enum-told
+enum-told c = search needs
+
+owed-requires : tie.Need-owed-requires
+owed-requires c κs = search needs
+
+cancelled-by-requires : tie.Need-cancelled-by-requires
+cancelled-by-requires c κs = search needs
+
+with-tariff-part-requires : tie.Need-with-tariff-part-requires
+with-tariff-part-requires c κs = search needs
+
+with-burst-part-requires : tie.Need-with-burst-part-requires
+with-burst-part-requires c κs = search needs
+
+returns : tie.Need-returns
+returns c = rw (← c .before .before .before .ruling .ensures, c .before .ruling2 .given .1)
+
+returns-2 : tie.Need-returns-2
+returns-2 c =
+    let t = c .before in
+    let k = t .before in
+    let o = k .before in
+    rw (← o .before .before .before .ruling .ensures, o .before .enum-told .given .1, ← t .with-tariff-part .ensures, ← o .owed .ensures, k .cancelled-by .ensures, c .with-burst-part .ensures)
+
+pub described-spec : {M : Type 1} → statement M
+described-spec =
+    tie.close
+    (tie.spec
+    ruling-requires
+    enum-known-ruling
+    enum-told
+    owed-requires
+    cancelled-by-requires
+    with-tariff-part-requires
+    with-burst-part-requires
+    returns
+    returns-2)

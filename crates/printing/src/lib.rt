@@ -1,0 +1,20 @@
+// The lines that the program `meter` prints.
+mod buffer;
+mod decimal;
+mod text;
+
+pub use text::put_answer;
+pub use text::put_tick;
+
+// What a command is answered: the burst pulses cancelled, the number of a refusal, or neither.
+pub enum Answer {
+    Ok(u32),
+    No(u32),
+    Bad,
+}
+
+// The place after a text that was put, or no room for it.
+pub enum Written {
+    Next(usize),
+    Full,
+}

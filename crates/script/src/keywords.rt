@@ -1,0 +1,26 @@
+// The words of the language, packed: the lowest byte of a number is its word's first.
+pub(crate) const CFG: u64 = 0x676663; // "cfg"
+
+pub(crate) const RP: u64 = 0x7072; // "rp"
+
+pub(crate) const SIG: u64 = 0x676973; // "sig"
+
+pub(crate) const HOOK: u64 = 0x6b6f6f68; // "hook"
+
+pub(crate) const RUN: u64 = 0x6e7572; // "run"
+
+pub(crate) const OFF: u64 = 0x66666f; // "off"
+
+pub(crate) const NONE: u64 = 0x656e6f6e; // "none"
+
+pub(crate) const KEEP: u64 = 0x7065656b; // "keep"
+
+pub(crate) const RATE: u64 = 0x65746172; // "rate"
+
+pub(crate) const EM: u64 = 0x6d65; // "em"
+
+pub(crate) const PH: u64 = 0x6870; // "ph"
+
+pub(crate) const BURST: u64 = 0x7473727562; // "burst"
+
+pub(crate) const STOP: u64 = 0x706f7473; // "stop"

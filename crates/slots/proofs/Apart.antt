@@ -1,0 +1,67 @@
+-- The slots ahead of a good tariff are at least 2S apart.
+use mathlib.Core.Path.{_≡_, refl, sym, _∙_}
+use mathlib.Core.List.{List}
+use mathlib.Core.Logic.{_≢_}
+use Prim.Native.Nat.{ℕ, zero, suc, _+_, _-_, _*_, _≤_, _<_}
+use native.Mathlib.Omega.{arith}
+use Rattle.tariff.specs.Steps.{stepOf}
+use Rattle.tariff.specs.declared.Phase.{Phase}
+use Rattle.tariff.specs.declared.Slot.{Slot}
+use Rattle.tariff.specs.declared.Slot.the-variants.{None}
+use Rattle.tariff.specs.declared.Tariff.{Tariff}
+use Rattle.slots.specs.Running.{from}
+use Rattle.slots.proofs.From.{from-past, from-begun}
+use Rattle.slots.proofs.Ahead.{Waits, Good, nextOf, slotsOf, ahead}
+use Rattle.slots.proofs.Agree.{Next, waits, empty, pulse}
+use Rattle.slots.proofs.Step.{none-left}
+use Rattle.slots.proofs.Tick.{step-slot, step-slots, good-step, next-step}
+
+-- after a slot the next one is 2S away or more
+next-far : {S v v′ : ℕ} {s : Slot} → Next S v v′ s → s ≢ None → v′ ≢ 0 → 2 * S ≤ v′
+next-far (waits p q) some = absurd (some refl)
+next-far (empty p far) some = far
+next-far (pulse p far) some = far
+
+module _ (S : ℕ) (a : List Phase) (n : ℕ) (spaced : 1 ≤ S) where
+  -- slots do not depend on how long a pulse lasts: take one tick
+  one-tick : Waits 1
+  one-tick = omega arith
+
+  ahead-apart : (x y : ℕ) (t : Tariff) → Good S a n t → ahead a n t (suc x) ≢ None → ahead a n t (suc y) ≢ None
+      → x < y → x + 2 * S ≤ y
+  ahead-apart zero y t g first second l = omega (arith, far, from-begun (slotsOf a n t′) (nextOf t′) y later)
+    where
+      t′ : Tariff
+      t′ = stepOf 1 a n t .tariff
+
+      later : ahead a n t′ y ≢ None
+      later e = second (sym (step-slots S 1 a n spaced one-tick t g y l) ∙ e)
+
+      far : 2 * S ≤ nextOf t′
+      far =
+          next-far (next-step S 1 a n spaced one-tick t g)
+          (λ e. first (step-slot S 1 a n spaced one-tick t g ∙ e))
+          (λ left. later (none-left S a n t′ (good-step S 1 a n spaced one-tick t g) left y))
+  ahead-apart (suc x) zero t g first second l = absurd (omega arith)
+  ahead-apart (suc x) (suc y) t g first second l =
+      let on = step-slots S 1 a n spaced one-tick t g in
+      omega (
+        arith,
+        ahead-apart x y (stepOf 1 a n t .tariff) (good-step S 1 a n spaced one-tick t g)
+            (λ e. first (sym (on (suc x) (omega arith)) ∙ e))
+            (λ e. second (sym (on (suc y) (omega arith)) ∙ e))
+            (omega arith),
+      )
+
+  -- and so are slots that begin at f, where they are those of a good tariff whose next slot is due
+  pub from-apart : (g : ℕ → Slot) (s : Tariff) → Good S a n s → ((x : ℕ) → ahead a n s (suc x) ≡ g x)
+      → (f t u : ℕ) → from f g t ≢ None → from f g u ≢ None → t < u → t + 2 * S ≤ u
+  from-apart g s good same f t u first second l =
+      let begun = from-begun g f t first in
+      omega (
+        arith,
+        ahead-apart (t - f) (u - f) s good
+            (λ e. first (from-past g f t begun ∙ sym (same (t - f)) ∙ e))
+            (λ e. second (from-past g f u (omega arith) ∙ sym (same (u - f)) ∙ e))
+            (omega arith),
+      )

@@ -1,0 +1,77 @@
+-- The rate of an em with C = 0: what runs and what the line keeps agree on it, a tick on and after a change.
+use mathlib.Core.Path.{_≡_, refl, sym, _∙_}
+use mathlib.Core.Bool.{true, false, true≢false}
+use mathlib.Core.List.{List}
+use Prim.Native.Nat.{ℕ, _+_, _≤_}
+use native.Mathlib.Omega.{arith}
+use borrow.Table.Steps.{cases}
+use lib.Dec.{ltb}
+use Rattle.tariff.specs.Steps.{phaseAt, pulsesAt, afterCounted, stepOf, emOf, rateOf, isEndless}
+use Rattle.tariff.specs.declared.Phase.{Phase}
+use Rattle.tariff.specs.declared.Tariff.{Tariff}
+use Rattle.tariff.specs.declared.Tariff.the-variants.{Idle, Endless, Counted, Phased, Ending}
+use Rattle.slots.specs.Running.{Running, runsEndless, rated}
+use Rattle.slots.proofs.Ahead.{Good}
+use Rattle.slots.proofs.Agree.{Agree, SameRate, steady, other}
+use Rattle.slots.proofs.Endless.{first-waits, first-due}
+use Rattle.slots.proofs.PhasedAfter.{AfterSlot, next-slot, next-interval, next-phase, no-phase, after-slot}
+use Rattle.slots.proofs.Step.{waited, afterDue, by-step}
+use Rattle.slots.proofs.Fresh.{agree-em}
+
+-- no other kind turns into an em with C = 0
+counted-other : (D C P k : ℕ) → isEndless (afterCounted D C P k) ≡ false
+unfolding afterCounted
+counted-other D C P k = cases (ltb (k + 1) C) (λ b. rw b) (λ b. rw b)
+
+phased-other : {a : List Phase} {n i e l j m : ℕ} {p : Phase} {t : Tariff} → AfterSlot a n i e l j p m t → isEndless t ≡ false
+phased-other (next-slot more) = refl
+phased-other (next-interval last more) = refl
+phased-other (next-phase last some short further) = refl
+phased-other (no-phase last some short end) = refl
+
+module _ (D : ℕ) (a : List Phase) (n : ℕ) where
+  due-other : (t : Tariff) → isEndless t ≡ false → isEndless (afterDue D a n t) ≡ false
+  due-other Idle o = refl
+  due-other (Endless P w) o = o
+  due-other (Counted C P k w) o = counted-other D C P k
+  due-other (Phased i e l j w) o = phased-other (after-slot a n i e l j (phaseAt a i) (pulsesAt (phaseAt a i) e))
+  due-other (Ending w) o = refl
+
+  wait-other : (t : Tariff) → isEndless (waited t) ≡ isEndless t
+  wait-other Idle = refl
+  wait-other (Endless P w) = refl
+  wait-other (Counted C P k w) = refl
+  wait-other (Phased i e l j w) = refl
+  wait-other (Ending w) = refl
+
+  -- a tick on
+  pub rate-tick : (S : ℕ) (r : Running) (t : Tariff) (i : ℕ) → 1 ≤ S → Good S a n t → SameRate i r t
+      → SameRate (i + 1) r (stepOf D a n t .tariff)
+  rate-tick S r t i spaced g (steady {f = f} {P = P} {w = w} e) =
+      by-step D a n S (Endless P w) g (λ s. SameRate (i + 1) r (s .tariff))
+      (λ one. steady (first-due f P i (omega (arith, g .far)) (rw one at e)))
+      (λ more. steady (first-waits f P i w (omega (arith, g .waits)) e ∙ omega (arith, g .waits)))
+  rate-tick S r t i spaced g (other p q) =
+      by-step D a n S t g (λ s. SameRate (i + 1) r (s .tariff))
+      (λ one. other p (due-other t q))
+      (λ more. other p (wait-other t ∙ q))
+
+  -- after a change
+  rate-changes : (S : ℕ) (r : Running) (t : Tariff) (i P : ℕ) → Good S a n t → SameRate i r t → isEndless t ≡ true
+      → Agree D a n (rated r i P) (rateOf P t) i
+  unfolding rated emOf rateOf
+  rate-changes S r t i P g (steady {f = f} {P = Q} {w = w} e) runs = rw e (agree-em D a n 0 P i w (g .waits .some))
+  rate-changes S r t i P g (other p q) runs = absurd (true≢false (sym runs ∙ q))
+
+  pub agree-rate : (S : ℕ) (r : Running) (t : Tariff) (i : ℕ) → Good S a n t → Agree D a n r t i → isEndless t ≡ true
+      → (P : ℕ) → Agree D a n (rated r i P) (rateOf P t) i
+  agree-rate S r t i g agree runs P = rate-changes S r t i P g (agree .rate) runs
+
+-- an em with C = 0 runs exactly where the line keeps one
+runs-alike : (r : Running) (t : Tariff) (i : ℕ) → SameRate i r t → runsEndless r ≡ isEndless t
+runs-alike r t i (steady e) = refl
+runs-alike r t i (other p q) = p ∙ sym q
+
+pub rate-runs : (D : ℕ) (a : List Phase) (n : ℕ) (r : Running) (t : Tariff) (i : ℕ) → Agree D a n r t i
+    → runsEndless r ≡ isEndless t
+rate-runs D a n r t i agree = runs-alike r t i (agree .rate)
