@@ -6,16 +6,17 @@ use Prim.Native.Nat.{ℕ, zero, suc, _+_, _-_, _*_, _^_, min, max, _≤_, _<_}
 use native.Mathlib.Decide.{decLe}
 use native.Mathlib.Omega.{arith}
 use borrow.Author.Tests.{lt-ltb, le-ltb}
+use Rattle.answers.specs.Fronts.{isBurstFront}
+use Rattle.answers.specs.declared.Front.{Front}
+use Rattle.answers.specs.declared.Front.the-variants.{None, Tariff as TariffFront, Burst as BurstFront}
+use Rattle.answers.specs.declared.Tick.{Tick}
 use Rattle.descriptor.specs.declared.BurstPart.the-variants.{Start}
 use Rattle.burst.specs.declared.Burst.{Burst}
 use Rattle.burst.specs.declared.Burst.the-variants.{Running as Owing}
 use Rattle.line.specs.Lines.{onOf}
-use Rattle.line.specs.declared.Front.{Front}
-use Rattle.line.specs.declared.Front.the-variants.{None, Tariff as TariffFront, Burst as BurstFront}
 use Rattle.line.specs.declared.Line.{Line}
-use Rattle.line.specs.declared.Tick.{Tick}
 use Rattle.demand.specs.Calls.{Call, Answer, accepted, refused, counters, ticked, Entry, entry}
-use Rattle.demand.specs.History.{tariffAsked, burstAsked, frontOf, isBurstFront, sum, ticks, ticksAfter, begun, burstIn, Started, started, never}
+use Rattle.demand.specs.History.{tariffAsked, burstAsked, frontOf, sum, ticks, ticksAfter, begun, burstIn, Started, started, never}
 use Rattle.demand.specs.Machine.{outcome, step}
 use Rattle.demand.specs.Demand.{isFresh, isNone, beforeLast, freshBefore, cancelsBefore, deadline, LastBegins}
 use Rattle.slots.proofs.Ahead.{nextOf}

@@ -8,6 +8,8 @@ use native.Mathlib.Omega.{arith}
 use borrow.Author.Tests.{leb-true, not-false}
 use borrow.Table.Steps.{cases}
 use lib.Dec.{leb, eqb}
+use Rattle.answers.specs.declared.Front.{Front}
+use Rattle.answers.specs.declared.Front.the-variants.{None, Tariff as TariffFront, Burst as BurstFront}
 use Rattle.tariff.specs.Rules.{within}
 use Rattle.tariff.specs.Steps.{stepOf, isEndless}
 use Rattle.tariff.specs.declared.Phase.{Phase}
@@ -21,16 +23,14 @@ use Rattle.descriptor.specs.declared.BurstPart.{BurstPart}
 use Rattle.descriptor.specs.declared.BurstPart.the-variants.{None as NoBurst, Keep as KeepBurst, Start}
 use Rattle.descriptor.specs.declared.Ruling.{Ruling}
 use Rattle.descriptor.specs.declared.Ruling.the-variants.{Allowed, TurnedDown}
+use Rattle.descriptor.specs.declared.Hook.the-variants.{Keep, Stop}
 use Rattle.burst.specs.Bursts.{owedBy, isRunning, heldMore, agedOf, begunOf, readyOf}
 use Rattle.burst.specs.declared.Burst.{Burst}
 use Rattle.burst.specs.declared.Burst.the-variants.{Idle, Running as Owing}
 use Rattle.burst.specs.declared.Aged.{Aged}
 use Rattle.line.specs.Rules.{oneMore, reportDue, cancelledBy, frontAt}
 use Rattle.line.specs.Lines.{freshLine, describeOf, hookOf, periodOf, noPeriodOf, auditOf, answeredBy, tariffChanged, burstChanged, withPeriod, countOf, tickWithFront, tickOf}
-use Rattle.line.specs.declared.Hook.the-variants.{Keep, Stop}
 use Rattle.line.specs.declared.Counters.{Counters}
-use Rattle.line.specs.declared.Front.{Front}
-use Rattle.line.specs.declared.Front.the-variants.{None, Tariff as TariffFront, Burst as BurstFront}
 use Rattle.line.specs.declared.Line.{Line}
 use Rattle.demand.specs.Calls.{Call, describe, hook, period, noPeriod, audit, tick, lentTick, Entry}
 use Rattle.demand.specs.Machine.{rulingOf, Outcome, outcome, answered, step}

@@ -6,13 +6,13 @@ use native.Mathlib.Decide.{ℕ-discrete}
 use native.Mathlib.Omega.{arith}
 use borrow.Author.Tests.{ltb-true, le-leb, lt-leb, lt-ltb, le-ltb, eq-eqb, ne-eqb}
 use lib.Dec.{leb, ltb, eqb}
+use Rattle.answers.specs.declared.Front.the-variants.{Burst as BurstFront}
 use Rattle.tariff.specs.Steps.{roomOf}
 use Rattle.tariff.specs.declared.Tariff.{Tariff}
 use Rattle.burst.specs.Bursts.{heldMore, agedOf, readyOf, begunOf, isRunning, owedBy}
 use Rattle.burst.specs.declared.Burst.{Burst}
 use Rattle.burst.specs.declared.Burst.the-variants.{Idle, Running as Owing}
 use Rattle.burst.specs.declared.Aged.{Aged}
-use Rattle.line.specs.declared.Front.the-variants.{Burst as BurstFront}
 use Rattle.demand.specs.History.{Last, never, at, passed, Started, started, begunBy, burstCompletes, burstReady, burstRuns, owedOf}
 use Rattle.demand.proofs.Held.{heldSince, Before, before-more, held-more, held-passed, same-le}
 use Rattle.demand.proofs.Coupled.{Config, BurstAt, none, runs, over}

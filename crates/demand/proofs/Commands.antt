@@ -5,6 +5,7 @@ use mathlib.Core.List.{List}
 use Prim.Native.Nat.{ℕ, _+_, _-_, max, _≤_}
 use native.Mathlib.Omega.{arith}
 use lib.ListN.{length}
+use Rattle.answers.specs.declared.Front.the-variants.{None}
 use Rattle.tariff.specs.Rules.{soundEm, soundPhases}
 use Rattle.tariff.specs.Steps.{emOf, phasedOf, rateOf}
 use Rattle.tariff.specs.declared.Phase.{Phase}
@@ -15,7 +16,6 @@ use Rattle.descriptor.specs.declared.TariffPart.the-variants.{None as NoTariff,
 use Rattle.descriptor.specs.declared.BurstPart.{BurstPart}
 use Rattle.descriptor.specs.declared.BurstPart.the-variants.{None as NoBurst, Keep as KeepBurst, Start}
 use Rattle.line.specs.Lines.{tariffChanged, burstChanged, withPeriod}
-use Rattle.line.specs.declared.Front.the-variants.{None}
 use Rattle.line.specs.declared.Line.{Line}
 use Rattle.demand.specs.History.{Last, at, Started, originAfter, changedBy, zeroedBy, burstBy}
 use Rattle.slots.proofs.Ahead.{Waits}

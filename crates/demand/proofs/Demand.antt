@@ -7,6 +7,10 @@ use Prim.Native.Nat.{ℕ, _+_, _^_, min, _<_}
 use native.Mathlib.Omega.{arith}
 use borrow.Author.Tests.{leb-true}
 use lib.Dec.{leb}
+use Rattle.answers.specs.Fronts.{isFront}
+use Rattle.answers.specs.declared.Front.{Front}
+use Rattle.answers.specs.declared.Front.the-variants.{None, Tariff as TariffFront, Burst as BurstFront}
+use Rattle.answers.specs.declared.Tick.{Tick}
 use Rattle.tariff.specs.Rules.{within}
 use Rattle.tariff.specs.declared.Slot.{Slot}
 use Rattle.tariff.specs.declared.Slot.the-variants.{None as NoSlot, Empty, Pulse}
@@ -15,15 +19,12 @@ use Rattle.descriptor.specs.Refusals.{ruling, soundConfiguration}
 use Rattle.descriptor.specs.declared.Ruling.the-variants.{Allowed, TurnedDown}
 use Rattle.descriptor.specs.declared.TariffPart.{TariffPart}
 use Rattle.descriptor.specs.declared.TariffPart.the-variants.{None as NoTariff, Keep as KeepTariff, Rate, Em, Phased}
+use Rattle.descriptor.specs.declared.Hook.the-variants.{Stop}
 use Rattle.line.specs.Rules.{frontAt}
 use Rattle.line.specs.Lines.{freshLine, makeOf, onOf}
-use Rattle.line.specs.declared.Hook.the-variants.{Stop}
-use Rattle.line.specs.declared.Front.{Front}
-use Rattle.line.specs.declared.Front.the-variants.{None, Tariff as TariffFront, Burst as BurstFront}
 use Rattle.line.specs.declared.Line.{Line}
-use Rattle.line.specs.declared.Tick.{Tick}
 use Rattle.demand.specs.Calls.{Call, hook, audit, Answer, accepted, counters, ticked, Entry, entry}
-use Rattle.demand.specs.History.{tariffAsked, frontOf, frontTold, isFront, ticks, running, owed, total, sinceReport, countBy, zeroedBy}
+use Rattle.demand.specs.History.{tariffAsked, frontOf, frontTold, ticks, running, owed, total, sinceReport, countBy, zeroedBy}
 use Rattle.demand.specs.Answers.{burstMayStart, answerAfter}
 use Rattle.demand.specs.Machine.{Outcome, outcome, step, Past, past, noted, afterCall, afterCalls, entries, lineAfter, history}
 use Rattle.demand.specs.Demand.{frontsSinceEm, EndAnswers, Follows, Demand3}

@@ -4,15 +4,15 @@ use mathlib.Core.Path.{_≡_}
 use mathlib.Core.List.{List, [], _∷_}
 use mathlib.Core.Bool.{Bool}
 use Prim.Native.Nat.{ℕ}
+use Rattle.answers.specs.declared.Tick.{Tick}
 use Rattle.phase_lists.specs.Lists.{Lists}
 use Rattle.descriptor.specs.declared.TariffPart.{TariffPart}
 use Rattle.descriptor.specs.declared.BurstPart.{BurstPart}
+use Rattle.descriptor.specs.declared.Hook.{Hook}
 use Rattle.line.specs.Lines.{makeOf, describeOf, hookOf, periodOf, noPeriodOf, auditOf, tickOf, onOf}
-use Rattle.line.specs.declared.Hook.{Hook}
 use Rattle.line.specs.declared.Line.{Line}
 use Rattle.line.specs.declared.Answered.{Answered}
 use Rattle.line.specs.declared.Audited.{Audited}
-use Rattle.line.specs.declared.Tick.{Tick}
 use Rattle.line.specs.declared.Ticked.{Ticked}
 use Rattle.demand.specs.Calls.{Call, describe, hook, period, noPeriod, audit, tick, lentTick, Answer, ticked, Entry, entry}
 use Rattle.demand.specs.Machine.{outcome, answered, audited, moved, step, past, noted, afterCalls, entries, history}

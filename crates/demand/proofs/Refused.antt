@@ -4,8 +4,8 @@ use Prim.Native.Nat.{ℕ}
 use native.Mathlib.Omega.{arith}
 use Rattle.descriptor.specs.declared.Ruling.{Ruling}
 use Rattle.descriptor.specs.declared.Ruling.the-variants.{Allowed, TurnedDown}
+use Rattle.descriptor.specs.declared.Hook.the-variants.{Keep, Stop}
 use Rattle.line.specs.Lines.{describeOf, hookOf, periodOf, noPeriodOf, auditOf, answeredBy}
-use Rattle.line.specs.declared.Hook.the-variants.{Keep, Stop}
 use Rattle.line.specs.declared.Line.{Line}
 use Rattle.demand.specs.Calls.{Call, describe, hook, period, noPeriod, audit, tick, lentTick, refused}
 use Rattle.demand.specs.Machine.{rulingOf, outcome, answered, step}

@@ -15,11 +15,11 @@ use Rattle.descriptor.specs.declared.TariffPart.{TariffPart}
 use Rattle.descriptor.specs.declared.TariffPart.the-variants.{None as NoTariff}
 use Rattle.descriptor.specs.declared.BurstPart.{BurstPart}
 use Rattle.descriptor.specs.declared.BurstPart.the-variants.{None as NoBurst}
+use Rattle.descriptor.specs.declared.Hook.the-variants.{Keep, Stop}
 use Rattle.burst.specs.Bursts.{owedBy}
 use Rattle.burst.specs.declared.Burst.the-variants.{Idle as NoBurstRuns}
 use Rattle.line.specs.Rules.{cancelledBy}
 use Rattle.line.specs.Lines.{freshLine, describeOf, hookOf, periodOf, noPeriodOf, auditOf, onOf, answeredBy, tariffChanged, burstChanged, withPeriod, zeroCounters}
-use Rattle.line.specs.declared.Hook.the-variants.{Keep, Stop}
 use Rattle.line.specs.declared.Line.{Line}
 use Rattle.demand.specs.Calls.{Call, describe, hook, period, noPeriod, audit, tick, lentTick, Answer, accepted, counters, ticked, Entry, entry}
 use Rattle.demand.specs.History.{ticks, lastFront, burstIn, owed, burstRuns, running, total, sinceReport, periodIn, pulseOn, never, idle}

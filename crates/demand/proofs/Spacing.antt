@@ -5,17 +5,18 @@ use mathlib.Core.List.{List, [], _∷_, _++_}
 use Prim.Native.Nat.{ℕ, _+_, _^_, _≤_, _<_}
 use native.Mathlib.Omega.{arith}
 use borrow.Author.Tests.{leb-true, le-leb}
+use Rattle.answers.specs.Fronts.{isFront}
+use Rattle.answers.specs.declared.Front.{Front}
+use Rattle.answers.specs.declared.Front.the-variants.{None, Tariff as TariffFront, Burst as BurstFront}
 use Rattle.tariff.specs.Steps.{stepOf}
 use Rattle.tariff.specs.declared.Slot.{Slot}
 use Rattle.tariff.specs.declared.Slot.the-variants.{None as NoSlot, Empty, Pulse}
 use Rattle.slots.specs.Running.{slotAt}
 use Rattle.descriptor.specs.declared.Ruling.the-variants.{Allowed, TurnedDown}
 use Rattle.line.specs.Rules.{frontAt}
-use Rattle.line.specs.declared.Front.{Front}
-use Rattle.line.specs.declared.Front.the-variants.{None, Tariff as TariffFront, Burst as BurstFront}
 use Rattle.line.specs.declared.Line.{Line}
 use Rattle.demand.specs.Calls.{Call, Answer, Entry}
-use Rattle.demand.specs.History.{frontOf, frontTold, isFront, ticks, ticksBy, Last, at, passed, lastFront, lastBy, burstIn, burstReady, running}
+use Rattle.demand.specs.History.{frontOf, frontTold, ticks, ticksBy, Last, at, passed, lastFront, lastBy, burstIn, burstReady, running}
 use Rattle.demand.specs.Answers.{burstMayStart}
 use Rattle.slots.proofs.Ahead.{Waits}
 use Rattle.slots.proofs.Agree.{Next, waits, empty, pulse}

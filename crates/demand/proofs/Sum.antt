@@ -6,19 +6,20 @@ use Prim.Native.Nat.{ℕ, _+_, _-_, _^_, max, _<_}
 use native.Mathlib.Omega.{arith}
 use borrow.Author.Tests.{ltb-true, ltb-false}
 use lib.Dec.{ltb}
+use Rattle.answers.specs.Fronts.{isBurstFront}
+use Rattle.answers.specs.declared.Front.the-variants.{None, Burst as BurstFront}
 use Rattle.tariff.specs.declared.Slot.{Slot}
 use Rattle.tariff.specs.declared.Slot.the-variants.{None as NoSlot, Empty, Pulse}
 use Rattle.slots.specs.Running.{slotAt, runsEndless}
 use Rattle.descriptor.specs.declared.Ruling.the-variants.{Allowed, TurnedDown}
 use Rattle.descriptor.specs.declared.BurstPart.{BurstPart}
 use Rattle.descriptor.specs.declared.BurstPart.the-variants.{None as NoBurst, Keep as KeepBurst, Start}
+use Rattle.descriptor.specs.declared.Hook.the-variants.{Keep, Stop}
 use Rattle.line.specs.Rules.{cancelledBy, frontAt}
 use Rattle.line.specs.Lines.{onOf}
-use Rattle.line.specs.declared.Hook.the-variants.{Keep, Stop}
-use Rattle.line.specs.declared.Front.the-variants.{None, Burst as BurstFront}
 use Rattle.line.specs.declared.Line.{Line}
 use Rattle.demand.specs.Calls.{Call, describe, hook, period, noPeriod, audit, tick, lentTick, Answer, Entry, entry, burstPart}
-use Rattle.demand.specs.History.{burstAsked, frontOf, cancelledOf, startedBy, isBurstFront, sum, ticks, acceptedPulses, begun, cancelled, at, passed, Started, idle, started, begunBy, burstBy, burstIn, owedOf, owed, burstRuns, burstReady, running}
+use Rattle.demand.specs.History.{burstAsked, frontOf, cancelledOf, startedBy, sum, ticks, acceptedPulses, begun, cancelled, at, passed, Started, idle, started, begunBy, burstBy, burstIn, owedOf, owed, burstRuns, burstReady, running}
 use Rattle.demand.specs.Answers.{rulingAfter, burstMayStart}
 use Rattle.demand.proofs.Coupled.{Config}
 use Rattle.demand.proofs.Taken.{starts-idle}

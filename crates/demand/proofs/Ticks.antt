@@ -6,6 +6,8 @@ use Prim.Native.Nat.{ℕ, _+_, _-_, _%_, _^_, _≤_}
 use native.Mathlib.Omega.{arith}
 use borrow.Author.Tests.{leb-true, eqb-true}
 use lib.Dec.{leb, eqb}
+use Rattle.answers.specs.declared.Front.{Front}
+use Rattle.answers.specs.declared.Tick.{Tick}
 use Rattle.tariff.specs.Steps.{stepOf, roomOf}
 use Rattle.tariff.specs.declared.Phase.{Phase}
 use Rattle.tariff.specs.declared.Tariff.{Tariff}
@@ -18,10 +20,8 @@ use Rattle.burst.specs.declared.Burst.{Burst}
 use Rattle.burst.specs.declared.Aged.{Aged}
 use Rattle.line.specs.Rules.{oneMore, reportDue, frontAt}
 use Rattle.line.specs.Lines.{countOf, tickWithFront, tickOf}
-use Rattle.line.specs.declared.Front.{Front}
 use Rattle.line.specs.declared.Count.{Count}
 use Rattle.line.specs.declared.Line.{Line}
-use Rattle.line.specs.declared.Tick.{Tick}
 use Rattle.demand.specs.History.{Last, at, passed, Started, lastBy, begunBy, burstCompletes, burstReady, countBy}
 use Rattle.demand.specs.Answers.{reportAt}
 use Rattle.slots.proofs.Ahead.{nextOf, Waits, Good}

@@ -2,14 +2,14 @@
 use mathlib.Core.Bool.{Bool, false, _&&_}
 use mathlib.Core.List.{List}
 use Prim.Native.Nat.{ℕ, _+_, _-_}
+use Rattle.answers.specs.declared.Front.{Front}
+use Rattle.answers.specs.declared.Front.the-variants.{None, Tariff, Burst}
+use Rattle.answers.specs.declared.Tick.{Tick}
 use Rattle.slots.specs.Running.{slotAt, quietFor, completesAt, runsEndless}
 use Rattle.descriptor.specs.Refusals.{ruling, numberOf}
 use Rattle.descriptor.specs.declared.Ruling.{Ruling}
 use Rattle.descriptor.specs.declared.Ruling.the-variants.{Allowed, TurnedDown}
 use Rattle.line.specs.Rules.{oneMore, reportDue, frontAt, cancelledBy}
-use Rattle.line.specs.declared.Front.{Front}
-use Rattle.line.specs.declared.Front.the-variants.{None, Tariff, Burst}
-use Rattle.line.specs.declared.Tick.{Tick}
 use Rattle.demand.specs.Calls.{Call, describe, hook, period, noPeriod, audit, tick, lentTick, Answer, accepted, refused, counters, ticked, Entry, burstPart, causes}
 use Rattle.demand.specs.History.{ticks, lastFront, passed, burstIn, owed, burstCompletes, burstRuns, burstReady, running, total, sinceReport, periodIn}
 

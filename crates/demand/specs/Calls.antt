@@ -2,6 +2,7 @@
 use mathlib.Core.Bool.{Bool}
 use mathlib.Core.List.{List, []}
 use Prim.Native.Nat.{ℕ}
+use Rattle.answers.specs.declared.Tick.{Tick}
 use Rattle.tariff.specs.declared.Phase.{Phase}
 use Rattle.phase_lists.specs.Lists.{Lists, phasesOf}
 use Rattle.descriptor.specs.Refusals.{Cause, descriptorCauses, periodCauses}
@@ -9,9 +10,8 @@ use Rattle.descriptor.specs.declared.TariffPart.{TariffPart}
 use Rattle.descriptor.specs.declared.TariffPart.the-variants.{None as NoTariff, Keep as KeepTariff}
 use Rattle.descriptor.specs.declared.BurstPart.{BurstPart}
 use Rattle.descriptor.specs.declared.BurstPart.the-variants.{None as NoBurst, Keep as KeepBurst}
-use Rattle.line.specs.declared.Hook.{Hook}
-use Rattle.line.specs.declared.Hook.the-variants.{Keep, Stop}
-use Rattle.line.specs.declared.Tick.{Tick}
+use Rattle.descriptor.specs.declared.Hook.{Hook}
+use Rattle.descriptor.specs.declared.Hook.the-variants.{Keep, Stop}
 
 -- a tick on a lent record is a tick too
 pub data Call : Type 0 where

@@ -5,17 +5,18 @@ use mathlib.Core.Logic.{_↔_}
 use mathlib.Core.List.{List, [], _∷_, _++_}
 use Prim.Native.Nat.{ℕ, _+_, _-_, _*_, _%_, _^_, min, max, _≤_}
 use lib.Dec.{ltb}
+use Rattle.answers.specs.Fronts.{isFront}
+use Rattle.answers.specs.declared.Front.the-variants.{Tariff, Burst}
+use Rattle.answers.specs.declared.Tick.{Tick}
 use Rattle.tariff.specs.declared.Slot.the-variants.{Pulse}
 use Rattle.slots.specs.Running.{slotAt}
 use Rattle.descriptor.specs.declared.TariffPart.{TariffPart}
 use Rattle.descriptor.specs.declared.TariffPart.the-variants.{None as NoTariff, Keep as KeepTariff, Rate, Em, Phased}
 use Rattle.descriptor.specs.declared.BurstPart.{BurstPart}
 use Rattle.descriptor.specs.declared.BurstPart.the-variants.{None as NoBurst, Keep as KeepBurst, Start}
-use Rattle.line.specs.declared.Hook.the-variants.{Stop}
-use Rattle.line.specs.declared.Front.the-variants.{Tariff, Burst}
-use Rattle.line.specs.declared.Tick.{Tick}
+use Rattle.descriptor.specs.declared.Hook.the-variants.{Stop}
 use Rattle.demand.specs.Calls.{Call, hook, audit, Answer, accepted, counters, ticked, Entry, entry}
-use Rattle.demand.specs.History.{tariffAsked, burstAsked, frontOf, isFront, ticks, acceptedPulses, begun, cancelled, owed, lastFront, pulseOn, running, zeroedBy, sinceReport}
+use Rattle.demand.specs.History.{tariffAsked, burstAsked, frontOf, ticks, acceptedPulses, begun, cancelled, owed, lastFront, pulseOn, running, zeroedBy, sinceReport}
 use Rattle.demand.specs.Answers.{answerAfter}
 use Rattle.demand.specs.Machine.{history}
 

@@ -3,6 +3,9 @@ use mathlib.Core.Bool.{Bool, true, false, cond, _&&_, _||_}
 use mathlib.Core.List.{List, [], _∷_}
 use Prim.Native.Nat.{ℕ, _+_, _-_, max}
 use lib.Dec.{leb, ltb, eqb}
+use Rattle.answers.specs.Fronts.{isBurstFront}
+use Rattle.answers.specs.declared.Front.{Front}
+use Rattle.answers.specs.declared.Front.the-variants.{None, Tariff, Burst}
 use Rattle.tariff.specs.declared.Phase.{Phase}
 use Rattle.slots.specs.Running.{Running, nothing, phased, emAt, rated, completesAt}
 use Rattle.descriptor.specs.declared.TariffPart.{TariffPart}
@@ -10,8 +13,6 @@ use Rattle.descriptor.specs.declared.TariffPart.the-variants.{None as NoTariff,
 use Rattle.descriptor.specs.declared.BurstPart.{BurstPart}
 use Rattle.descriptor.specs.declared.BurstPart.the-variants.{None as NoBurst, Keep as KeepBurst, Start}
 use Rattle.line.specs.Rules.{oneMore}
-use Rattle.line.specs.declared.Front.{Front}
-use Rattle.line.specs.declared.Front.the-variants.{None, Tariff, Burst}
 use Rattle.demand.specs.Calls.{Call, describe, hook, period, noPeriod, audit, tick, lentTick, Answer, accepted, refused, counters, ticked, Entry, entry, tariffPart, burstPart, phasesIn}
 
 -- ---- one entry
@@ -62,16 +63,6 @@ abbrev pub startedBy : BurstPart → ℕ
 startedBy NoBurst = 0
 startedBy KeepBurst = 0
 startedBy (Start n P) = n
-
-abbrev pub isBurstFront : Front → ℕ
-isBurstFront None = 0
-isBurstFront Tariff = 0
-isBurstFront Burst = 1
-
-abbrev pub isFront : Front → ℕ
-isFront None = 0
-isFront Tariff = 1
-isFront Burst = 1
 
 -- ---- counts over a history
 

@@ -1,4 +1,4 @@
-// A descriptor: its parts, its table of phases, and what the table of refusals makes of it.
+// A descriptor and an on-hook event: what they carry, the table of phases, and what the table of refusals makes of them.
 mod refusals;
 mod tables;
 
@@ -20,6 +20,12 @@ pub enum BurstPart {
     None,
     Keep,
     Start { pulses: u32, interval: u32 },
+}
+
+// What an on-hook event carries.
+pub enum Hook {
+    Keep,
+    Stop,
 }
 
 // Why a call was turned down.

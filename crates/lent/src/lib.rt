@@ -1,8 +1,8 @@
 // A tick on a line record that its caller lends.
 ghost use mathlib.Core.Path.{_≡_};
 ghost use Rattle.line.specs.Lines.{tickOf};
+use answers::Tick;
 use line::Line;
-use line::Tick;
 
 // One tick of a lent line, which is moved on where it is held.
 pub fn tick_in_place(line: &mut Line) -> Tick

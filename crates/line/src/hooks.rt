@@ -2,10 +2,10 @@
 ghost use mathlib.Core.Path.{_≡_};
 ghost use Rattle.line.specs.Lines.{hookOf};
 use super::Answered;
-use super::Hook;
 use super::Line;
 use super::Verdict;
 use burst::Burst;
+use descriptor::Hook;
 use tariff::Tariff;
 
 impl Line {

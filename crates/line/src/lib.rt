@@ -7,16 +7,11 @@ mod parts;
 mod reports;
 mod ticking;
 
+use answers::Tick;
 use burst::Burst;
 use descriptor::Refusal;
 use tariff::Phase;
 use tariff::Tariff;
-
-// What an on-hook event carries.
-pub enum Hook {
-    Keep,
-    Stop,
-}
 
 // The pulses applied, the pulses since the last report, and the report period, 0 for none.
 pub struct Counters {
@@ -53,21 +48,6 @@ pub struct Audited {
     pub line: Line,
     pub cpc: u32,
     pub pcslr: u32,
-}
-
-// The pulse that begins at a tick.
-pub enum Front {
-    None,
-    Tariff,
-    Burst,
-}
-
-// A tick's answer: whether the tariff and the burst are complete, the front, and whether a report is given.
-pub struct Tick {
-    pub tariff: bool,
-    pub burst: bool,
-    pub front: Front,
-    pub report: bool,
 }
 
 pub struct Ticked {

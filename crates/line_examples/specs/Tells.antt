@@ -2,9 +2,9 @@
 use mathlib.Core.Bool.{Bool, true, false}
 use lib.Dec.{eqb}
 use Prim.Native.Nat.{ℕ}
+use Rattle.answers.specs.declared.Front.{Front}
+use Rattle.answers.specs.declared.Front.the-variants.{None, Tariff, Burst}
 use Rattle.descriptor.specs.Refusals.{numberOf}
-use Rattle.line.specs.declared.Front.{Front}
-use Rattle.line.specs.declared.Front.the-variants.{None, Tariff, Burst}
 use Rattle.line.specs.declared.Verdict.{Verdict}
 use Rattle.line.specs.declared.Verdict.the-variants.{Accepted, Refused}
 

@@ -3,11 +3,11 @@ ghost use mathlib.Core.Path.{_≡_};
 ghost use Rattle.phase_lists.specs.Lists.{noLists};
 ghost use Rattle.line.specs.Lines.{describeOf};
 ghost use Rattle.line_examples.specs.Tells.{isTariff, accepts, refuses};
+use answers::Front;
 use check::expect;
 use descriptor::BurstPart;
+use descriptor::Hook;
 use descriptor::TariffPart;
-use line::Front;
-use line::Hook;
 use line::Line;
 use line::Verdict;
 

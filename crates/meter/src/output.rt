@@ -1,6 +1,6 @@
 // Standard output by way of a lent buffer, of which the bytes before `at` are held back.
+use answers::Tick;
 use libc::STDOUT_FILENO;
-use line::Tick;
 use printing::Answer;
 use printing::Written;
 

@@ -2,7 +2,7 @@
 use mathlib.Core.Path.{_≡_, refl}
 use mathlib.Core.Bool.{true, false}
 use mathlib.Core.List.{_++_}
-use Rattle.line.specs.declared.Front.the-variants.{None as NoFront, Tariff as TariffFront, Burst as BurstFront}
+use Rattle.answers.specs.declared.Front.the-variants.{None as NoFront, Tariff as TariffFront, Burst as BurstFront}
 use Rattle.printing.specs.Bytes.{bytes}
 use Rattle.printing.specs.Text.{digitsOf, tickText}
 

@@ -6,9 +6,9 @@ use Prim.Native.Nat.{ℕ, zero, suc, _+_, _/_, _%_, _≤_}
 use Prim.Native.String.{String, _++_ as _&_}
 use lib.Dec.{ltb}
 use lib.ListN.{length, drop}
-use Rattle.line.specs.declared.Front.{Front}
-use Rattle.line.specs.declared.Front.the-variants.{None, Tariff, Burst}
-use Rattle.line.specs.declared.Tick.{Tick}
+use Rattle.answers.specs.declared.Front.{Front}
+use Rattle.answers.specs.declared.Front.the-variants.{None, Tariff, Burst}
+use Rattle.answers.specs.declared.Tick.{Tick}
 use Rattle.printing.specs.Bytes.{bytes}
 use Rattle.printing.specs.declared.decimal.Digits.{Digits}
 use Rattle.printing.specs.declared.Answer.{Answer}

@@ -11,8 +11,8 @@ use super::Answer;
 use super::Written;
 use super::buffer::put_around;
 use super::buffer::put_packed;
-use line::Front;
-use line::Tick;
+use answers::Front;
+use answers::Tick;
 
 // The fixed texts, packed: the lowest byte of a number is its text's first.
 const OK: u64 = 0x206b6f; // "ok "

@@ -7,7 +7,7 @@ use native.Mathlib.Omega.{arith}
 use borrow.Author.Tests.{lt-ltb, le-ltb, ltb-true}
 use lib.Dec.{leb, ltb}
 use lib.ListN.{length, drop, drop-of-length-le}
-use Rattle.line.specs.declared.Hook.the-variants.{Keep, Stop}
+use Rattle.descriptor.specs.declared.Hook.the-variants.{Keep, Stop}
 use Rattle.script.specs.Words.{wordsOf, same}
 use Rattle.script.specs.Numbers.{numberOf}
 use Rattle.script.specs.Readers.{Parsed, failed, parsed, Reader, after, _>>=_, give, fail, first, rest, valued, number, pair, noWord, whole}

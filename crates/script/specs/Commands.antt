@@ -7,7 +7,7 @@ use Rattle.descriptor.specs.declared.TariffPart.{TariffPart}
 use Rattle.descriptor.specs.declared.TariffPart.the-variants.{None as NoTariff, Keep as KeepTariff, Rate, Em, Phased}
 use Rattle.descriptor.specs.declared.BurstPart.{BurstPart}
 use Rattle.descriptor.specs.declared.BurstPart.the-variants.{None as NoBurst, Keep as KeepBurst, Start}
-use Rattle.line.specs.declared.Hook.the-variants.{Keep as KeepOn, Stop}
+use Rattle.descriptor.specs.declared.Hook.the-variants.{Keep as KeepOn, Stop}
 use Rattle.script.specs.Words.{same, wordsOf}
 use Rattle.script.specs.Numbers.{numberOf}
 use Rattle.script.specs.Readers.{Reader, _>>=_, give, fail, word, valued, number, pair, choice, whole}

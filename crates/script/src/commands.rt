@@ -25,7 +25,7 @@ use super::words::ended;
 use super::words::is_word;
 use super::words::last_word;
 use super::words::next_word;
-use line::Hook;
+use descriptor::Hook;
 
 // Reads what follows `cfg`: D, G and the clock.
 fn read_configure(line: &[u8], at: usize) -> Command

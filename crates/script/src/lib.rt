@@ -1,7 +1,7 @@
 // The language of the program `meter`: what each line of its input asks.
 use descriptor::BurstPart;
+use descriptor::Hook;
 use descriptor::TariffPart;
-use line::Hook;
 use tariff::Phase;
 
 mod commands;

@@ -35,16 +35,16 @@ use denote.Triple.Spec.{Meets, tripleOf}
 use denote.Triple.Table.{entered, cited}
 use denote.Triple.Clauses.{ensured, lasts}
 use denote.Triple.Walked.{says, Stays, stay-ref, walkOf, AllGo, goes-ref, Walks, ends-at, walked, walk-meets}
+use Rattle.answers.specs.declared.Tick.{Tick}
 use Rattle.line.specs.Lines.{tickOf}
 use Rattle.line.specs.declared.Line.{Line}
-use Rattle.line.specs.declared.Tick.{Tick}
 use Rattle.line.specs.declared.Ticked.{Ticked}
 use Rattle.line.proofs.Line.tick.Symbol.{name as #line·Line·tick}
 use Rattle.lent.proofs.tick_in_place.Key.{name as #lent·tick-in-place}
 use Rattle.line.proofs.Line as L
 use Rattle.line.proofs.Line.Laws as L′
-use Rattle.line.proofs.Tick as K
-use Rattle.line.proofs.Tick.Laws as K′
+use Rattle.answers.proofs.Tick as K
+use Rattle.answers.proofs.Tick.Laws as K′
 use Rattle.line.proofs.Ticked as D
 use Rattle.line.proofs.Ticked.Laws as D′
 use Rattle.line.proofs.Line.tick as tick

@@ -8,9 +8,9 @@ use Rattle.phase_lists.specs.Lists.{noLists}
 use Rattle.descriptor.specs.Refusals.{ruling}
 use Rattle.descriptor.specs.declared.TariffPart.the-variants.{Em}
 use Rattle.descriptor.specs.declared.BurstPart.the-variants.{Keep, Start}
+use Rattle.descriptor.specs.declared.Hook.the-variants.{Stop}
 use Rattle.burst.specs.Bursts.{agedOf, readyOf}
 use Rattle.line.specs.Lines.{freshLine, makeOf, tariffChanged, burstChanged, describeOf, hookOf, countOf, tickOf}
-use Rattle.line.specs.declared.Hook.the-variants.{Stop}
 use Rattle.line.specs.declared.Answered.{Answered}
 use Rattle.line.specs.declared.Ticked.{Ticked}
 use Rattle.line_examples.specs.Tells.{isTariff, accepts, refuses}

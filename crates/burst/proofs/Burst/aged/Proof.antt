@@ -1,7 +1,7 @@
 -- `Burst::aged` meets its contract.
 use Rattle.burst.specs.Bursts.{agedOf}
-use borrow.Author.Needs.{needs}
 use Rattle.burst.proofs.Burst.aged.Statement.{statement}
+use borrow.Author.Needs.{needs}
 use Rattle.burst.proofs.Burst.aged.Tie as tie
 
 enum-told : tie.Need-enum-told

@@ -1,7 +1,7 @@
 -- `Burst::is_ready` meets its contract.
 use Rattle.burst.specs.Bursts.{readyOf}
-use borrow.Author.Needs.{needs}
 use Rattle.burst.proofs.Burst.is_ready.Statement.{statement}
+use borrow.Author.Needs.{needs}
 use Rattle.burst.proofs.Burst.is_ready.Tie as tie
 
 enum-told : tie.Need-enum-told

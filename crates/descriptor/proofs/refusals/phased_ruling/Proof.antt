@@ -3,10 +3,10 @@ use mathlib.Core.Path.{_≡_}
 use mathlib.Core.Bool.{false}
 use lib.ListN.{take}
 use Rattle.tariff.specs.Rules.{soundPhases}
-use borrow.Author.Tests.{not-true, not-false}
 use Rattle.descriptor.specs.Rulings.{tariffRuling}
 use Rattle.tariff.proofs.Negated.{holds, fails}
 use Rattle.descriptor.proofs.refusals.phased_ruling.Statement.{statement}
+use borrow.Author.Tests.{not-true, not-false}
 use borrow.Author.Needs.{needs}
 use Rattle.descriptor.proofs.refusals.phased_ruling.Tie as tie
 
