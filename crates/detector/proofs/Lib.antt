@@ -1,7 +1,10 @@
 -- The root of the proofs: the functions' laws first, then the claims on every list of calls.
 pub mod Pick
+pub mod Held
+pub mod Notice
 pub mod Sign
-pub mod Interval
+pub mod Enables
+pub mod Ticks
 pub mod Same
 pub mod Coupling
 pub mod Lri

@@ -1,9 +1,9 @@
 -- What a tick gives: the rules of pr and of ric, on plain numbers.
 use Prim.Native.Nat.{ℕ, zero, suc, _+_}
-use mathlib.Core.Bool.{Bool, true, false}
+use mathlib.Core.Bool.{Bool, true, false, _&&_, _||_}
 use lib.Dec.{eqb}
-use lib.IntN.{ℤ, pos, negsuc, _-ℤ_}
-use lib.Signed.{ltZ}
+use lib.IntN.{ℤ, pos, negsuc, natAbs, _-ℤ_}
+use lib.Signed.{ltZ, leZ}
 use Rattle.detector.specs.Values.{pick}
 use Rattle.detector.specs.declared.request.Request.{Request}
 use Rattle.detector.specs.declared.request.Request.the-variants.{Off, Pr, Ric}
@@ -44,8 +44,23 @@ abbrev pub ricNotice : Bool → (lri : ℤ) (rit e pcslr : ℕ) → Notice
 ricNotice true = pulseNotice
 ricNotice false = silenceNotice
 
+-- Whether a tick gives an event under ric: a pulse at lri −1 or 0, or where e < lri − rit; no pulse where lri > 0 and e = lri + rit.
+abbrev pub ricEvent : Bool → (lri : ℤ) (rit e : ℕ) → Bool
+ricEvent true lri rit e = leZ lri (pos 0) || ltZ (pos e) (lri -ℤ pos rit)
+ricEvent false lri rit e = pick (leZ lri (pos 0)) false (eqb e (natAbs lri + rit))
+
+-- Its interval: e at a pulse where lri is 0 or above, else 0.
+abbrev pub ricInterval : Bool → (lri : ℤ) (e : ℕ) → ℕ
+ricInterval pulse lri e = pick (pulse && leZ (pos 0) lri) e 0
+
 -- By the request that is on; pcslr is taken after the pulse was counted.
 abbrev pub noticeAt : Request → Bool → (lri : ℤ) (e pcslr : ℕ) → Notice
 noticeAt Off pulse lri e pcslr = nothing
 noticeAt (Pr rp) pulse lri e pcslr = prNotice pulse rp pcslr
 noticeAt (Ric rit) pulse lri e pcslr = ricNotice pulse lri rit e pcslr
+
+-- An event, a report, or nothing.
+abbrev pub noticeBy : Bool → Bool → (interval count : ℕ) → Notice
+noticeBy true reports interval count = event interval count
+noticeBy false true interval count = report
+noticeBy false false interval count = nothing

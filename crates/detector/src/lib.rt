@@ -1,8 +1,9 @@
 // The pulse detector of H.248.26, clause 7: its state, and the calls on it.
 ghost use mathlib.Core.Path.{_≡_};
-ghost use Prim.Native.Nat.{suc};
-ghost use Rattle.detector.specs.Values.{heldCount, elapsed};
-ghost use Rattle.detector.specs.State.{fresh, countedOf, changedTo, requestOf, requestedAs, tickOf, tickedAs, auditOf};
+ghost use Prim.Native.Nat.{suc, _≤_};
+ghost use lib.IntN.{pos};
+ghost use Rattle.detector.specs.Values.{pick, heldCount, topTicks, elapsed};
+ghost use Rattle.detector.specs.State.{fresh, changedTo, requestOf, requestedAs, tickOf, tickedAs, auditOf};
 use crate::notification::Notification;
 use crate::request::Answer;
 use crate::request::Events;
@@ -51,11 +52,15 @@ pub struct Audited {
     pub pcslr: u32,
 }
 
-// One pulse more, held at the counters' top.
-fn counted_up(count: u32) -> u32
-    ensures { λ r. ⌜ r ≡ heldCount (suc count) ⌝ }
+// One pulse more where one is seen, held at the counters' top.
+fn counted_up(count: u32, seen: bool) -> u32
+    ensures { λ r. ⌜ r ≡ pick seen (heldCount (suc count)) count ⌝ }
 {
-    if count < TOP_COUNT { count + 1 } else { count }
+    if seen & (count < TOP_COUNT) {
+        count + 1
+    } else {
+        count
+    }
 }
 
 // The ticks from the last pulse to this tick, held.
@@ -67,6 +72,32 @@ fn elapsed_now(since: u32) -> u32
     } else {
         TOP_TICKS
     }
+}
+
+// The ticks since the last pulse, one tick on: none at a pulse, and as they were while the detector is off.
+fn since_after(since: u32, e: u32, enabled: bool, pulse: bool) -> u32
+    ensures { λ r. ⌜ r ≡ pick enabled (pick pulse 0 e) since ⌝ }
+{
+    if enabled {
+        if pulse { 0 } else { e }
+    } else {
+        since
+    }
+}
+
+// A count, or 0 where it is zeroed.
+fn kept(count: u32, zeroed: bool) -> u32
+    ensures { λ r. ⌜ r ≡ pick zeroed 0 count ⌝ }
+{
+    if zeroed { 0 } else { count }
+}
+
+// lri after a tick: the interval of its event.
+fn lri_after(lri: i32, interval: u32, event: bool) -> i32
+    requires { ⌜ interval ≤ topTicks ⌝ }
+    ensures { λ r. ⌜ r ≡ pick event (pos interval) lri ⌝ }
+{
+    if event { interval as i32 } else { lri }
 }
 
 impl Detector {
@@ -91,19 +122,14 @@ impl Detector {
         let on = self.request;
         if request::same(request, on) {
             self
-        } else if request::enables(request) {
-            Detector {
-                request: request,
-                lri: -1,
-                cpc: 0,
-                pcslr: 0,
-                ..self
-            }
         } else {
+            let enables = 0 < request::event(request);
             Detector {
                 request: request,
                 lri: -1,
-                ..self
+                cpc: kept(self.cpc, enables),
+                pcslr: kept(self.pcslr, enables),
+                since: self.since,
             }
         }
     }
@@ -128,55 +154,30 @@ impl Detector {
         }
     }
 
-    // The counters and the ticks since the last pulse, one tick on.
-    fn counted(self, pulse: bool) -> Detector
-        ensures { λ r. ⌜ r ≡ countedOf pulse self ⌝ }
-    {
-        let on = self.request;
-        if request::enables(on) {
-            if pulse {
-                Detector {
-                    cpc: counted_up(self.cpc),
-                    pcslr: counted_up(self.pcslr),
-                    since: 0,
-                    ..self
-                }
-            } else {
-                Detector {
-                    since: elapsed_now(self.since),
-                    ..self
-                }
-            }
-        } else {
-            self
-        }
-    }
-
     // One tick, with or without a pulse.
     pub fn tick(self, pulse: bool) -> Ticked
         ensures { λ r. ⌜ tickedAs r ≡ tickOf self pulse ⌝ }
     {
         let on = self.request;
+        let event = request::event(on);
+        let parameter = request::parameter(on);
+        let enabled = 0 < event;
         let e = elapsed_now(self.since);
-        let d = self.counted(pulse);
-        let n = notification::of_tick(on, pulse, self.lri, e, d.pcslr);
-        match n {
-            Notification::Nothing => Ticked {
-                detector: d,
-                notification: n,
-            },
-            Notification::Report => Ticked {
-                detector: Detector { pcslr: 0, ..d },
-                notification: n,
-            },
-            Notification::Event { interval, count: _ } => Ticked {
-                detector: Detector {
-                    lri: interval as i32,
-                    pcslr: 0,
-                    ..d
-                },
-                notification: n,
-            },
+        let count = counted_up(self.pcslr, enabled & pulse);
+        let reports = (event == 1) & pulse & (count == parameter);
+        let lri = self.lri;
+        let tells = (event == 2) & notification::ric_event(pulse, lri, parameter, e);
+        let interval = notification::ric_interval(pulse, lri, e);
+        let d = Detector {
+            request: on,
+            lri: lri_after(lri, interval, tells),
+            cpc: counted_up(self.cpc, enabled & pulse),
+            pcslr: kept(count, tells | reports),
+            since: since_after(self.since, e, enabled, pulse),
+        };
+        Ticked {
+            detector: d,
+            notification: notification::given(tells, reports, interval, count),
         }
     }
 

@@ -1,6 +1,7 @@
 // What a detector is asked for: the events descriptor, the request that it makes, and the answer.
 ghost use mathlib.Core.Path.{_≡_};
-ghost use Rattle.detector.specs.Request.{enabled, sameAs, eventOf, parameterOf, requestedBy, numberOf, replyOf, replyTo};
+ghost use Rattle.detector.specs.Values.{pick};
+ghost use Rattle.detector.specs.Request.{sameAs, eventOf, parameterOf, requestedBy, ok, no, numberOf, replyOf, replyTo};
 
 // The request that is on: no event, pr with its report period, or ric with its interval threshold.
 pub enum Request {
@@ -43,19 +44,8 @@ impl Refusal {
     }
 }
 
-// A request that is not off enables the detector.
-pub(crate) fn enables(request: Request) -> bool
-    ensures { λ r. ⌜ r ≡ enabled request ⌝ }
-{
-    match request {
-        Request::Off => false,
-        Request::Pr { rp: _ } => true,
-        Request::Ric { rit: _ } => true,
-    }
-}
-
-// The event of a request: 0 none, 1 pr, 2 ric.
-fn event(request: Request) -> u32
+// The event of a request: 0 none, 1 pr, 2 ric. One that is not off enables the detector.
+pub(crate) fn event(request: Request) -> u32
     ensures { λ r. ⌜ r ≡ eventOf request ⌝ }
 {
     match request {
@@ -66,7 +56,7 @@ fn event(request: Request) -> u32
 }
 
 // The parameter of a request: rp, rit, or 0 where it has none.
-fn parameter(request: Request) -> u32
+pub(crate) fn parameter(request: Request) -> u32
     ensures { λ r. ⌜ r ≡ parameterOf request ⌝ }
 {
     match request {
@@ -80,11 +70,7 @@ fn parameter(request: Request) -> u32
 pub(crate) fn same(a: Request, b: Request) -> bool
     ensures { λ r. ⌜ r ≡ sameAs a b ⌝ }
 {
-    if event(a) == event(b) {
-        parameter(a) == parameter(b)
-    } else {
-        false
-    }
+    (event(a) == event(b)) & (parameter(a) == parameter(b))
 }
 
 // The request that a descriptor makes.
@@ -99,26 +85,25 @@ pub(crate) fn asked_for(events: Events) -> Request
     }
 }
 
+// The answer by whether a parameter is out of range.
+fn ranged(out: bool) -> Answer
+    ensures { λ r. ⌜ replyOf r ≡ pick out (no 10) ok ⌝ }
+{
+    if out {
+        Answer::Refused(Refusal::OutOfRange)
+    } else {
+        Answer::Accepted
+    }
+}
+
 // The answer to a descriptor: 459 before 10.
 pub(crate) fn answer_to(events: Events) -> Answer
     ensures { λ r. ⌜ replyOf r ≡ replyTo events ⌝ }
 {
     match events {
         Events::Neither => Answer::Accepted,
-        Events::Pr { rp } => {
-            if rp == 0 {
-                Answer::Refused(Refusal::OutOfRange)
-            } else {
-                Answer::Accepted
-            }
-        }
-        Events::Ric { rit } => {
-            if 60000 < rit {
-                Answer::Refused(Refusal::OutOfRange)
-            } else {
-                Answer::Accepted
-            }
-        }
+        Events::Pr { rp } => ranged(rp == 0),
+        Events::Ric { rit } => ranged(60000 < rit),
         Events::Both { rp: _, rit: _ } => Answer::Refused(Refusal::InvalidCombination),
     }
 }

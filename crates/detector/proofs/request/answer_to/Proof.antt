@@ -1,5 +1,4 @@
 -- `request::answer_to` meets its contract.
-use borrow.Author.Tests.{eq-eqb, ne-eqb, lt-ltb, le-ltb}
 use borrow.Author.Needs.{needs}
 use Rattle.detector.proofs.request.answer_to.Statement.{statement}
 use Rattle.detector.proofs.request.answer_to.Tie as tie
@@ -10,8 +9,14 @@ enum-told c = search needs
 enum-known-events : tie.Need-enum-known-events
 enum-known-events c = search needs
 
+ranged-requires : tie.Need-ranged-requires
+ranged-requires c κs = search needs
+
 enum-known-events-2 : tie.Need-enum-known-events-2
 enum-known-events-2 c = search needs
+
+ranged-requires-2 : tie.Need-ranged-requires-2
+ranged-requires-2 c κs = search needs
 
 enum-told-2 : tie.Need-enum-told-2
 enum-told-2 c = search needs
@@ -20,19 +25,13 @@ returns : tie.Need-returns
 returns c = search needs
 
 returns-2 : tie.Need-returns-2
-returns-2 c = rw (c .before .before .events .given .1, eq-eqb _ _ (c .if1 .taken))
+returns-2 c = rw (c .before .before .events .given .1) (c .ranged .ensures)
 
 returns-3 : tie.Need-returns-3
-returns-3 c = rw (c .before .before .events .given .1, ne-eqb _ _ (c .if1 .left))
+returns-3 c = rw (c .before .before .events2 .given .1) (c .ranged2 .ensures)
 
 returns-4 : tie.Need-returns-4
-returns-4 c = rw (c .before .before .events2 .given .1, lt-ltb _ _ (c .if2 .taken))
-
-returns-5 : tie.Need-returns-5
-returns-5 c = rw (c .before .before .events2 .given .1, le-ltb _ _ (c .if2 .left))
-
-returns-6 : tie.Need-returns-6
-returns-6 c = rw (c .enum-told2 .given .1)
+returns-4 c = rw (c .enum-told2 .given .1)
 
 pub answer-to-spec : {M : Type 1} → statement M
 answer-to-spec =
@@ -40,11 +39,11 @@ answer-to-spec =
     (tie.spec
     enum-told
     enum-known-events
+    ranged-requires
     enum-known-events-2
+    ranged-requires-2
     enum-told-2
     returns
     returns-2
     returns-3
-    returns-4
-    returns-5
-    returns-6)
+    returns-4)

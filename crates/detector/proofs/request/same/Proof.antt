@@ -1,5 +1,4 @@
 -- `request::same` meets its contract.
-use borrow.Author.Tests.{eq-eqb, ne-eqb}
 use borrow.Author.Needs.{needs}
 use Rattle.detector.proofs.request.same.Statement.{statement}
 use Rattle.detector.proofs.request.same.Tie as tie
@@ -17,18 +16,9 @@ parameter-requires-2 : tie.Need-parameter-requires-2
 parameter-requires-2 c κs = search needs
 
 returns : tie.Need-returns
-returns c = rw (← c .before .before .before .before .event .ensures, ← c .before .before .before .event2 .ensures, eq-eqb _ _ (c .before .before .if1 .taken), ← c .before .parameter .ensures, ← c .parameter2 .ensures)
-
-returns-2 : tie.Need-returns-2
-returns-2 c = rw (← c .before .before .event .ensures, ← c .before .event2 .ensures, ne-eqb _ _ (c .if1 .left))
+returns c = rw (← c .before .before .before .event .ensures, ← c .before .before .event2 .ensures, ← c .before .parameter .ensures, ← c .parameter2 .ensures)
 
 pub same-spec : {M : Type 1} → statement M
 same-spec =
     tie.close
-    (tie.spec
-    event-requires
-    event-requires-2
-    parameter-requires
-    parameter-requires-2
-    returns
-    returns-2)
+    (tie.spec event-requires event-requires-2 parameter-requires parameter-requires-2 returns)
