@@ -17,20 +17,20 @@ abbrev countedBy : Bool → Bool → ℕ → ℕ
 countedBy on pulse n = pick (on && pulse) (heldCount (suc n)) n
 
 -- The numbers after a tick, by its tests.
-abbrev built : Detector → (on pulse tells reports : Bool) → ℕ → Outcome Notice
-built d on pulse tells reports interval = record {
+abbrev built : Detector → (on pulse isEvent reports : Bool) → ℕ → Outcome Notice
+built d on pulse isEvent reports interval = record {
   detector = record {
     request = d .request;
-    lri = pick tells (pos interval) (d .lri);
+    lri = pick isEvent (pos interval) (d .lri);
     cpc = countedBy on pulse (d .cpc);
-    pcslr = pick (tells || reports) 0 (countedBy on pulse (d .pcslr));
+    pcslr = pick (isEvent || reports) 0 (countedBy on pulse (d .pcslr));
     since = pick on (pick pulse 0 (elapsed (d .since))) (d .since);
   };
-  answer = noticeBy tells reports interval (countedBy on pulse (d .pcslr));
+  answer = noticeBy isEvent reports interval (countedBy on pulse (d .pcslr));
 }
 
-built-settled : (d : Detector) (on pulse tells reports : Bool) (interval : ℕ) →
-    built d on pulse tells reports interval ≡ settled (pick on (pulsed pulse d) d) (noticeBy tells reports interval (countedBy on pulse (d .pcslr)))
+built-settled : (d : Detector) (on pulse isEvent reports : Bool) (interval : ℕ) →
+    built d on pulse isEvent reports interval ≡ settled (pick on (pulsed pulse d) d) (noticeBy isEvent reports interval (countedBy on pulse (d .pcslr)))
 built-settled d true true true reports interval = refl
 built-settled d true true false true interval = refl
 built-settled d true true false false interval = refl
@@ -54,15 +54,15 @@ module _ (d : Detector) (pulse : Bool) where
   abbrev count : ℕ
   count = countedBy on pulse (d .pcslr)
 
-  abbrev tells : Bool
-  tells = eqb (eventOf (d .request)) 2 && ricEvent pulse (d .lri) (parameterOf (d .request)) (elapsed (d .since))
+  abbrev isEvent : Bool
+  isEvent = eqb (eventOf (d .request)) 2 && ricEvent pulse (d .lri) (parameterOf (d .request)) (elapsed (d .since))
 
   abbrev reports : Bool
   reports = (eqb (eventOf (d .request)) 1 && pulse) && eqb count (parameterOf (d .request))
 
-  built-ticked : built d on pulse tells reports (ricInterval pulse (d .lri) (elapsed (d .since))) ≡ tickOf d pulse
+  built-ticked : built d on pulse isEvent reports (ricInterval pulse (d .lri) (elapsed (d .since))) ≡ tickOf d pulse
   built-ticked =
-      built-settled d on pulse tells reports (ricInterval pulse (d .lri) (elapsed (d .since)))
+      built-settled d on pulse isEvent reports (ricInterval pulse (d .lri) (elapsed (d .since)))
       ∙ (rw (← notice-by (d .request) pulse (d .lri) (elapsed (d .since)) count)
       (ap (λ (k : ℕ). settled (pick on (pulsed pulse d) d) (noticeAt (d .request) pulse (d .lri) (elapsed (d .since)) k)) (counted-pcslr d on pulse)))
 

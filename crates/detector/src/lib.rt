@@ -166,18 +166,18 @@ impl Detector {
         let count = counted_up(self.pcslr, enabled & pulse);
         let reports = (event == 1) & pulse & (count == parameter);
         let lri = self.lri;
-        let tells = (event == 2) & notification::ric_event(pulse, lri, parameter, e);
+        let is_event = (event == 2) & notification::ric_event(pulse, lri, parameter, e);
         let interval = notification::ric_interval(pulse, lri, e);
         let d = Detector {
             request: on,
-            lri: lri_after(lri, interval, tells),
+            lri: lri_after(lri, interval, is_event),
             cpc: counted_up(self.cpc, enabled & pulse),
-            pcslr: kept(count, tells | reports),
+            pcslr: kept(count, is_event | reports),
             since: since_after(self.since, e, enabled, pulse),
         };
         Ticked {
             detector: d,
-            notification: notification::given(tells, reports, interval, count),
+            notification: notification::given(is_event, reports, interval, count),
         }
     }
 

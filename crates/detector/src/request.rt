@@ -86,7 +86,7 @@ pub(crate) fn asked_for(events: Events) -> Request
 }
 
 // The answer by whether a parameter is out of range.
-fn ranged(out: bool) -> Answer
+fn answer_by_range(out: bool) -> Answer
     ensures { λ r. ⌜ replyOf r ≡ pick out (no 10) ok ⌝ }
 {
     if out {
@@ -102,8 +102,8 @@ pub(crate) fn answer_to(events: Events) -> Answer
 {
     match events {
         Events::Neither => Answer::Accepted,
-        Events::Pr { rp } => ranged(rp == 0),
-        Events::Ric { rit } => ranged(60000 < rit),
+        Events::Pr { rp } => answer_by_range(rp == 0),
+        Events::Ric { rit } => answer_by_range(60000 < rit),
         Events::Both { rp: _, rit: _ } => Answer::Refused(Refusal::InvalidCombination),
     }
 }

@@ -12,7 +12,7 @@ use Rattle.script.specs.Words.{wordsOf, same}
 use Rattle.script.specs.Numbers.{numberOf}
 use Rattle.script.specs.Readers.{Parsed, failed, parsed, Reader, after, _>>=_, give, fail, first, rest, valued, number, pair, noWord, whole}
 use Rattle.script.specs.Commands.{upTo, period, hook}
-use Rattle.script.specs.Told.{lost, read, Read, ended, NextWord, only, LastWord}
+use Rattle.script.specs.Told.{pastEnd, read, Read, ended, NextWord, only, LastWord}
 use Rattle.script.specs.declared.Command.the-variants.{Bad, Period, NoPeriod, OnHook}
 use Rattle.script.specs.declared.PhaseLine.{PhaseLine}
 use Rattle.script.specs.declared.PhaseLine.the-variants.{Numbers}
@@ -21,13 +21,13 @@ use Rattle.script.specs.declared.numbers.Number.the-variants.{Value, Non
 use Rattle.script.specs.declared.words.Word.{Word}
 use Rattle.printing.specs.Bytes.{bytes}
 
--- the place `lost` tells of nothing
-read-lost : {A : Type 0} (l : List ℕ) (a : A) → length l * 1 < 2 ^ 63 → read l a lost ≡ failed
-read-lost l a h = rw (lt-ltb (length l) lost (omega arith))
+-- the place `pastEnd` tells of nothing
+read-past-end : {A : Type 0} (l : List ℕ) (a : A) → length l * 1 < 2 ^ 63 → read l a pastEnd ≡ failed
+read-past-end l a h = rw (lt-ltb (length l) pastEnd (omega arith))
 
 -- it is answered where a reader fails
-pub lost-read : {A : Type 0} {l : List ℕ} {a : A} {p : Parsed A} → length l * 1 < 2 ^ 63 → p ≡ failed → Read l a lost p
-lost-read {A} {l} {a} h e = record { told = read-lost l a h ∙ sym e }
+pub past-end-read : {A : Type 0} {l : List ℕ} {a : A} {p : Parsed A} → length l * 1 < 2 ^ 63 → p ≡ failed → Read l a pastEnd p
+past-end-read {A} {l} {a} h e = record { told = read-past-end l a h ∙ sym e }
 
 is-past : {A : Type 0} (t : Bool) (a : A) (ws : List (List ℕ)) → cond t failed (parsed a ws) ≡ failed → t ≡ true
 is-past true a ws e = refl
@@ -73,9 +73,9 @@ pub read-pair : {l : List ℕ} {i j a b : ℕ} {p : Parsed ℕ} → Read l a i p
     → Read {A = ℕ × ℕ} l (a, b) j (after p (λ a ws. after (number ws) (λ b. give (a, b))))
 read-pair h g = read-both number (λ a b. (a, b)) refl h g
 
--- a number up to its top, and a lost place above it
+-- a number up to its top, and a place past the end above it
 pub read-up-to : {A : Type 0} {l : List ℕ} {i n : ℕ} {p : Parsed ℕ} (most : ℕ) (f : ℕ → A)
-    → length l * 1 < 2 ^ 63 → Read l n i p → Read l (f n) (cond (leb n most) i lost) (after p (λ n. upTo most n (f n)))
+    → length l * 1 < 2 ^ 63 → Read l n i p → Read l (f n) (cond (leb n most) i pastEnd) (after p (λ n. upTo most n (f n)))
 read-up-to {A} {l} {i} {n} most f short h = record { told = rw (← h .told) (bounded (leb n most) refl) }
   where
     at : (t u : Bool) (ws : List (List ℕ)) → leb n most ≡ u
@@ -85,9 +85,9 @@ read-up-to {A} {l} {i} {n} most f short h = record { told = rw (← h .told) (bo
     at false true ws e = rw e
     at false false ws e = rw e
 
-    bounded : (u : Bool) → leb n most ≡ u → read l (f n) (cond u i lost) ≡ after (read l n i) (λ n. upTo most n (f n))
+    bounded : (u : Bool) → leb n most ≡ u → read l (f n) (cond u i pastEnd) ≡ after (read l n i) (λ n. upTo most n (f n))
     bounded true e = at (ltb (length l) i) true (wordsOf (drop i l)) e
-    bounded false e = read-lost l (f n) short ∙ at (ltb (length l) i) false (wordsOf (drop i l)) e
+    bounded false e = read-past-end l (f n) short ∙ at (ltb (length l) i) false (wordsOf (drop i l)) e
 
 -- what is read of a whole line
 pub read-whole : {A : Type 0} {l : List ℕ} {i : ℕ} {a : A} {p : Parsed A} {t : Bool} (bad : A)

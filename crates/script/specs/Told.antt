@@ -10,8 +10,8 @@ use Rattle.script.specs.Readers.{Parsed, failed, parsed, first, rest, no
 use Rattle.script.specs.declared.words.Word.{Word}
 
 -- the place of a reader that failed: it lies past the end of every line
-abbrev pub lost : ℕ
-lost = 18_446_744_073_709_551_615
+abbrev pub pastEnd : ℕ
+pastEnd = 18_446_744_073_709_551_615
 
 -- what was read, up to the place `at` of the line l; past its end nothing was
 abbrev pub read : {A : Type 0} → List ℕ → A → ℕ → Parsed A

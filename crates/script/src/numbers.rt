@@ -6,8 +6,8 @@ ghost use lib.ListN.{drop};
 ghost use Rattle.script.specs.Words.{wordsOf};
 ghost use Rattle.script.specs.Numbers.{numberOf};
 ghost use Rattle.script.specs.Readers.{number};
-ghost use Rattle.script.specs.Told.{lost, Read};
-use super::words::LOST;
+ghost use Rattle.script.specs.Told.{pastEnd, Read};
+use super::words::PAST_END;
 use super::words::next_word;
 
 // What a word is as a number.
@@ -16,7 +16,7 @@ pub(crate) enum Number {
     None,
 }
 
-// A number that was read, and the place after it, or no number and the place `LOST`.
+// A number that was read, and the place after it, or no number and the place `PAST_END`.
 pub(crate) struct NextNumber {
     pub value: u32,
     pub at: usize,
@@ -58,13 +58,16 @@ pub(crate) fn next_number(line: &[u8], at: usize) -> NextNumber
     let found = number_in(&line[start..end]);
     match found {
         Number::Value(value) => NextNumber { value, at: end },
-        Number::None => NextNumber { value: 0, at: LOST },
+        Number::None => NextNumber {
+            value: 0,
+            at: PAST_END,
+        },
     }
 }
 
 // The place after a number that is not above a top.
 pub(crate) fn up_to(top: u32, n: NextNumber) -> usize
-    ensures { λ r. ⌜ r ≡ cond (leb (n .value) top) (n .at) lost ⌝ }
+    ensures { λ r. ⌜ r ≡ cond (leb (n .value) top) (n .at) pastEnd ⌝ }
 {
-    if n.value > top { LOST } else { n.at }
+    if n.value > top { PAST_END } else { n.at }
 }

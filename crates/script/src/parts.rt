@@ -11,20 +11,20 @@ use super::keywords::PH;
 use super::keywords::RATE;
 use super::numbers::next_number;
 use super::numbers::up_to;
-use super::words::LOST;
+use super::words::PAST_END;
 use super::words::is_word;
 use super::words::next_word;
 use descriptor::BurstPart;
 use descriptor::TariffPart;
 
-// A tariff part that was read, the number of phase lines that follow, and the place after it or `LOST`.
+// A tariff part that was read, the number of phase lines that follow, and the place after it or `PAST_END`.
 pub(crate) struct NextTariff {
     pub part: TariffPart,
     pub phases: u32,
     pub at: usize,
 }
 
-// A burst part that was read, and the place after it or `LOST`.
+// A burst part that was read, and the place after it or `PAST_END`.
 pub(crate) struct NextBurst {
     pub part: BurstPart,
     pub at: usize,
@@ -104,7 +104,7 @@ pub(crate) fn next_tariff(line: &[u8], at: usize) -> NextTariff
     NextTariff {
         part: TariffPart::None,
         phases: 0,
-        at: LOST,
+        at: PAST_END,
     }
 }
 
@@ -148,6 +148,6 @@ pub(crate) fn next_burst(line: &[u8], at: usize) -> NextBurst
     }
     NextBurst {
         part: BurstPart::None,
-        at: LOST,
+        at: PAST_END,
     }
 }

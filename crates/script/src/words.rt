@@ -14,7 +14,7 @@ pub(crate) struct Word {
 }
 
 // The place that is answered where a line is not what a reader takes. It lies past the end of every line.
-pub(crate) const LOST: usize = usize::MAX;
+pub(crate) const PAST_END: usize = usize::MAX;
 
 // Whether a byte ends a run of blanks, or else one of other bytes.
 fn ends_run(blanks: bool, b: u8) -> bool

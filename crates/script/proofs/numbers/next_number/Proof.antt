@@ -1,7 +1,7 @@
 -- `next_number` meets its contract.
 use borrow.Author.Needs.{needs}
 use borrow.Author.Tests.{le-ltb}
-use Rattle.script.proofs.ReadLaws.{lost-read}
+use Rattle.script.proofs.ReadLaws.{past-end-read}
 use Rattle.script.proofs.numbers.next_number.Statement.{statement}
 use Rattle.script.proofs.numbers.next_number.Tie as tie
 
@@ -37,7 +37,7 @@ returns-2 c =
     let m = c .before .before in
     let n = m .before .before in
     let w = n .next-word .ensures in
-    lost-read (n .before .before .good .0 .1) (rw (← w .spelled, ← w .others, ← m .number-in .ensures, c .enum-told .given .1))
+    past-end-read (n .before .before .good .0 .1) (rw (← w .spelled, ← w .others, ← m .number-in .ensures, c .enum-told .given .1))
 
 pub next-number-spec : {M : Type 1} → statement M
 next-number-spec =

@@ -1,7 +1,7 @@
 -- `next_burst` meets its contract.
 use borrow.Author.Needs.{needs}
 use borrow.Author.Tests.{le-ltb}
-use Rattle.script.proofs.ReadLaws.{lost-read}
+use Rattle.script.proofs.ReadLaws.{past-end-read}
 use Rattle.script.proofs.parts.next_burst.Statement.{statement}
 use Rattle.script.proofs.parts.next_burst.Tie as tie
 
@@ -87,7 +87,7 @@ returns-4 c =
     let e1 = e2 .before .before in
     let n = e1 .before .before .before in
     let w = n .next-word .ensures in
-    lost-read (n .before .before .good .0 .1) (rw (
+    past-end-read (n .before .before .good .0 .1) (rw (
       ← w .spelled,
       ← w .others,
       ← e1 .before .is-word .ensures,

@@ -1,7 +1,7 @@
 -- `next_tariff` meets its contract.
 use borrow.Author.Needs.{needs}
 use borrow.Author.Tests.{le-ltb}
-use Rattle.script.proofs.ReadLaws.{lost-read}
+use Rattle.script.proofs.ReadLaws.{past-end-read}
 use Rattle.script.proofs.parts.next_tariff.Statement.{statement}
 use Rattle.script.proofs.parts.next_tariff.Tie as tie
 
@@ -152,7 +152,7 @@ returns-6 c =
     let e1 = e2 .before .before in
     let n = e1 .before .before .before in
     let w = n .next-word .ensures in
-    lost-read (n .before .before .good .0 .1) (rw (
+    past-end-read (n .before .before .good .0 .1) (rw (
       ← w .spelled,
       ← w .others,
       ← e1 .before .is-word .ensures,
