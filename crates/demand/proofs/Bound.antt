@@ -1,23 +1,22 @@
 -- The last pulse of a burst begins in time.
 use mathlib.Core.Path.{_≡_, refl, sym, ap, _∙_}
-use mathlib.Core.Bool.{Bool}
+use mathlib.Core.Bool.{cond}
 use mathlib.Core.List.{List, [], _∷_, _++_, append-assoc}
 use Prim.Native.Nat.{ℕ, zero, suc, _+_, _-_, _*_, _^_, min, max, _≤_, _<_}
 use native.Mathlib.Decide.{decLe}
+use native.Mathlib.Nat.{mul-le-mul-right}
 use native.Mathlib.Omega.{arith}
 use borrow.Author.Tests.{lt-ltb, le-ltb}
 use Rattle.answers.specs.Fronts.{isBurstFront}
 use Rattle.answers.specs.declared.Front.{Front}
 use Rattle.answers.specs.declared.Front.the-variants.{None, Tariff as TariffFront, Burst as BurstFront}
-use Rattle.answers.specs.declared.Tick.{Tick}
 use Rattle.descriptor.specs.declared.BurstPart.the-variants.{Start}
 use Rattle.burst.specs.declared.Burst.{Burst}
 use Rattle.burst.specs.declared.Burst.the-variants.{Running as Owing}
-use Rattle.line.specs.Lines.{onOf}
 use Rattle.line.specs.declared.Line.{Line}
-use Rattle.demand.specs.Calls.{Call, Answer, accepted, refused, counters, ticked, Entry, entry}
-use Rattle.demand.specs.History.{tariffAsked, burstAsked, frontOf, sum, ticks, ticksAfter, begun, burstIn, Started, started, never}
-use Rattle.demand.specs.Machine.{outcome, step}
+use Rattle.demand.specs.Calls.{Call, Answer, Entry}
+use Rattle.demand.specs.History.{granted, frontOf, sum, ticks, begun, burstIn, Started, started, never}
+use Rattle.demand.specs.Machine.{entryOf, outcome, step}
 use Rattle.demand.specs.Demand.{isFresh, isNone, beforeLast, freshBefore, cancelsBefore, deadline, LastBegins}
 use Rattle.slots.proofs.Ahead.{nextOf}
 use Rattle.demand.proofs.Counts.{ticks-most}
@@ -44,11 +43,11 @@ one-fewer zero G l = absurd (omega arith)
 one-fewer (suc m) G l = let e : suc m - 1 ≡ m = omega arith in rw e (omega arith)
 
 module _ (S : ℕ) (z : 1 ≤ S) (n K j r done : ℕ) (l l′ : Line) (e : Entry) where
-  kept : (x : Left S l n K j r done) → Effect S (l .since) (nextOf (l .tariff)) (x .others) (x .distance) (x .own) e l′ → isNone (burstAsked e) ≡ 0 → isBurstFront (frontOf e) + done < n →
-      Left S l′ n K (ticksAfter e j) (isFresh (tariffAsked e) + r) (isBurstFront (frontOf e) + done)
+  kept : (x : Left S l n K j r done) → Effect S (l .since) (nextOf (l .tariff)) (x .others) (x .distance) (x .own) e l′ → isNone (granted e .burst) ≡ 0 → isBurstFront (frontOf e) + done < n →
+      Left S l′ n K (cond (granted e .tick) (j + 1) j) (isFresh (granted e .tariff) + r) (isBurstFront (frontOf e) + done)
   kept x (cancels c) a b = absurd (omega arith)
   kept x (stays t f w v u) a b =
-      record { others = x .others; distance = x .distance; own = x .own; first = x .first; wide = x .wide; owing = u; count = rw f (omega (arith, x .count)); within = rw (w, v) (x .within); low = rw (t j) (omega (arith, x .low)) }
+      record { others = x .others; distance = x .distance; own = x .own; first = x .first; wide = x .wide; owing = u; count = rw f (omega (arith, x .count)); within = rw (w, v) (x .within); low = rw t (omega (arith, x .low)) }
   kept x (stops t f w v u) a b =
       record {
         others = x .others;
@@ -59,7 +58,7 @@ module _ (S : ℕ) (z : 1 ≤ S) (n K j r done : ℕ) (l l′ : Line) (e : Entry
         owing = u;
         count = rw f (omega (arith, x .count));
         within = rw (w, v) (stopped S z (l .since) (x .distance) (x .own) (nextOf (l .tariff)) (x .first) (x .within));
-        low = rw (t j) (omega (arith, x .low));
+        low = rw t (omega (arith, x .low));
       }
   kept x (begins t f fresh w u) a b =
       record {
@@ -71,7 +70,7 @@ module _ (S : ℕ) (z : 1 ≤ S) (n K j r done : ℕ) (l l′ : Line) (e : Entry
         owing = u;
         count = rw f (omega (arith, x .count));
         within = rw w (replaced S z (l .since) (x .distance) (x .own) (nextOf (l .tariff)) (x .first) (nextOf (l′ .tariff)) (x .within));
-        low = rw (t j, fresh) (omega (arith, x .low));
+        low = rw (t, fresh) (omega (arith, x .low));
       }
   kept x (waiting t f o y w v u) a b =
       let some = positive S z (l .since) (x .distance) (x .own) (nextOf (l .tariff)) (x .first) (x .within) in
@@ -84,7 +83,7 @@ module _ (S : ℕ) (z : 1 ≤ S) (n K j r done : ℕ) (l l′ : Line) (e : Entry
         owing = u;
         count = rw f (omega (arith, x .count));
         within = rw (w, v) (waits S z (l .since) (x .distance) (x .own) (nextOf (l .tariff)) (x .first) o y (x .within));
-        low = rw (t j) (omega (arith, x .low));
+        low = rw t (omega (arith, x .low));
       }
   kept x (empty-due t f d far w u) a b =
       let some = positive S z (l .since) (x .distance) (x .own) (nextOf (l .tariff)) (x .first) (x .within) in
@@ -97,7 +96,7 @@ module _ (S : ℕ) (z : 1 ≤ S) (n K j r done : ℕ) (l l′ : Line) (e : Entry
         owing = u;
         count = rw f (omega (arith, x .count));
         within = rw w (empty-slot S z (l .since) (x .distance) (x .own) (nextOf (l .tariff)) (x .first) (nextOf (l′ .tariff)) far d (x .within));
-        low = rw (t j) (omega (arith, x .low));
+        low = rw t (omega (arith, x .low));
       }
   kept x (pulse-due t f d far w u) a b =
       let some = positive S z (l .since) (x .distance) (x .own) (nextOf (l .tariff)) (x .first) (x .within) in
@@ -110,7 +109,7 @@ module _ (S : ℕ) (z : 1 ≤ S) (n K j r done : ℕ) (l l′ : Line) (e : Entry
         owing = u;
         count = rw f (omega (arith, x .count));
         within = rw w (pulse-slot S z (l .since) (x .distance) (x .own) (nextOf (l .tariff)) (x .first) (nextOf (l′ .tariff)) far d (x .within));
-        low = rw (t j) (omega (arith, x .low));
+        low = rw t (omega (arith, x .low));
       }
   kept x (burst-due t f w u) a b =
       let some = positive S z (l .since) (x .distance) (x .own) (nextOf (l .tariff)) (x .first) (x .within) in
@@ -124,7 +123,7 @@ module _ (S : ℕ) (z : 1 ≤ S) (n K j r done : ℕ) (l l′ : Line) (e : Entry
         owing = u ∙ ap (λ (m : ℕ). Owing m (x .distance) 0) (omega arith);
         count = rw f (omega arith);
         within = rw w (late (x .distance) (omega (arith, x .wide)) (omega arith));
-        low = rw (t j) (omega (arith, x .low, one-fewer (x .others) (x .distance + 2 * S) more));
+        low = rw t (omega (arith, x .low, one-fewer (x .others) (x .distance + 2 * S) more));
       }
     where
       burst-more : {m : ℕ} → frontOf e ≡ BurstFront → isBurstFront (frontOf e) + done < n → suc m + done ≡ n → 1 ≤ m
@@ -144,34 +143,34 @@ module _ (D S clock : ℕ) (cfg : Config D S) (small : clock < 2 ^ 32) where
   some = omega arith
 
   -- one call
-  keeps : (h : List Entry) {l : Line} → Coupled D S clock h l → (n K j r done : ℕ) (c : Call) (a : Answer) (l′ : Line) → step l c ≡ outcome a l′ → isNone (burstAsked (entry c a (l′ .clock) (onOf l′))) ≡ 0 →
-      isBurstFront (frontOf (entry c a (l′ .clock) (onOf l′))) + done < n → Left S l n K j r done →
-      Left S l′ n K (ticksAfter (entry c a (l′ .clock) (onOf l′)) j) (isFresh (tariffAsked (entry c a (l′ .clock) (onOf l′))) + r) (isBurstFront (frontOf (entry c a (l′ .clock) (onOf l′))) + done)
+  keeps : (h : List Entry) {l : Line} → Coupled D S clock h l → (n K j r done : ℕ) (c : Call) (a : Answer) (l′ : Line) → step l c ≡ outcome a l′ → isNone (granted (entryOf c a l′) .burst) ≡ 0 →
+      isBurstFront (frontOf (entryOf c a l′)) + done < n → Left S l n K j r done →
+      Left S l′ n K (cond (granted (entryOf c a l′) .tick) (j + 1) j) (isFresh (granted (entryOf c a l′) .tariff) + r) (isBurstFront (frontOf (entryOf c a l′)) + done)
   keeps h {l} (line-at e before ag g x y) n K j r done c a l′ q kept-on few left =
-      kept S some n K j r done l l′ (entry c a (l′ .clock) (onOf l′)) left (rw q at (effect l cfg g (left .others) (left .distance) (left .own) (left .owing) c)) kept-on few
+      kept S some n K j r done l l′ (entryOf c a l′) left (rw q at (effect l cfg g (left .others) (left .distance) (left .own) (left .owing) c)) kept-on few
 
   -- the start itself
-  begun-line : {l : Line} (n P : ℕ) (before : List Entry) (e : Entry) → Coupled D S clock (e ∷ before) l → burstAsked e ≡ Start (suc n) P → Left S l (suc n) (3 * S + n * (max P S + 2 * S)) 0 0 0
+  begun-line : {l : Line} (n P : ℕ) (before : List Entry) (e : Entry) → Coupled D S clock (e ∷ before) l → granted e .burst ≡ Start (suc n) P → Left S l (suc n) (3 * S + n * (max P S + 2 * S)) 0 0 0
   unfolding burstIn
   begun-line n P before e (line-at {u = u} q b ag g x y) is =
       record { others = n; distance = max P S; own = max P S; first = 3 * S; wide = omega arith; owing = burst-started D S (ticks (e ∷ before)) (suc n) P (burstIn (e ∷ before)) u (rw is refl) x; count = omega arith; within = late S (omega arith) (omega arith); low = omega arith }
 
   -- every call after the start, while a pulse is owed
-  left : {l : Line} (n P : ℕ) (rest before : List Entry) (e : Entry) → Run D S clock cfg (rest ++ (e ∷ before)) l → burstAsked e ≡ Start (suc n) P →
-      sum (λ e. isNone (burstAsked e)) rest ≡ 0 → begun rest < suc n →
-      Left S l (suc n) (3 * S + n * (max P S + 2 * S)) (ticks rest) (sum (λ e. isFresh (tariffAsked e)) rest) (begun rest)
+  left : {l : Line} (n P : ℕ) (rest before : List Entry) (e : Entry) → Run D S clock cfg (rest ++ (e ∷ before)) l → granted e .burst ≡ Start (suc n) P →
+      sum (λ e. isNone (granted e .burst)) rest ≡ 0 → begun rest < suc n →
+      Left S l (suc n) (3 * S + n * (max P S + 2 * S)) (ticks rest) (sum (λ e. isFresh (granted e .tariff)) rest) (begun rest)
   unfolding sum ticks
   left n P [] before e r is kept-on few = begun-line n P before e (coupled D S clock cfg small r) is
   left n P (x ∷ rest) before e (more {h = h} {l = l} {l′ = l′} {c = c} {a = a} r q) is kept-on few =
-      keeps (rest ++ (e ∷ before)) (coupled D S clock cfg small r) (suc n) (3 * S + n * (max P S + 2 * S)) (ticks rest) (sum (λ e. isFresh (tariffAsked e)) rest) (begun rest) c a l′ q (omega arith) (omega arith)
+      keeps (rest ++ (e ∷ before)) (coupled D S clock cfg small r) (suc n) (3 * S + n * (max P S + 2 * S)) (ticks rest) (sum (λ e. isFresh (granted e .tariff)) rest) (begun rest) c a l′ q (omega arith) (omega arith)
       (left n P rest before e r is (omega arith) (omega arith))
 
   sizes : (n x : ℕ) → 3 * S + n * (x + 2 * S) ≡ (2 * suc n + 1) * S + (suc n - 1) * x
   sizes n x = let e : suc n - 1 ≡ n = omega arith in rw e (omega arith)
 
   -- while the last pulse has not begun, fewer ticks than the deadline have gone
-  not-late : {l : Line} (n P : ℕ) (rest before : List Entry) (e : Entry) → Run D S clock cfg (rest ++ (e ∷ before)) l → burstAsked e ≡ Start n P →
-      sum (λ e. isNone (burstAsked e)) rest ≡ 0 → begun rest < n → ticks rest < deadline S n P (sum (λ e. isFresh (tariffAsked e)) rest)
+  not-late : {l : Line} (n P : ℕ) (rest before : List Entry) (e : Entry) → Run D S clock cfg (rest ++ (e ∷ before)) l → granted e .burst ≡ Start n P →
+      sum (λ e. isNone (granted e .burst)) rest ≡ 0 → begun rest < n → ticks rest < deadline S n P (sum (λ e. isFresh (granted e .tariff)) rest)
   not-late zero P rest before e r is kept-on few = absurd (omega arith)
   not-late {l} (suc n) P rest before e r is kept-on few =
       let x = left n P rest before e r is kept-on few in
@@ -183,13 +182,6 @@ before-all : (f : Entry → ℕ) (n : ℕ) (rest : List Entry) → begun rest < 
 unfolding beforeLast sum
 before-all f n [] h = refl
 before-all f n (e ∷ rest) h = rw (lt-ltb (begun rest) n (omega arith)) (omega (arith, before-all f n rest (omega arith)))
-
--- an entry with a front is a tick's: it asks nothing
-front-asks : (f : Entry → ℕ) → ((c : Call) (t : Tick) (k : ℕ) (on : Bool) → f (entry c (ticked t) k on) ≡ 0) → (e : Entry) → frontOf e ≡ BurstFront → f e ≡ 0
-front-asks f h (entry c (accepted n) k on) e = absurd (let o : _≡_ {A = ℕ} 0 1 = cc in omega arith)
-front-asks f h (entry c (refused n) k on) e = absurd (let o : _≡_ {A = ℕ} 0 1 = cc in omega arith)
-front-asks f h (entry c (counters x y) k on) e = absurd (let o : _≡_ {A = ℕ} 0 1 = cc in omega arith)
-front-asks f h (entry c (ticked t) k on) e = h c t k on
 
 burst-front : (f : Front) → 1 ≤ isBurstFront f → f ≡ BurstFront
 burst-front None h = absurd (omega arith)
@@ -204,7 +196,7 @@ pub record Found (n : ℕ) (rest : List Entry) : Type 0 where
   pub split : rest ≡ after ++ (front ∷ until)
   pub burst : frontOf front ≡ BurstFront
   pub last : begun until + 1 ≡ n
-  pub asked : (f : Entry → ℕ) → ((c : Call) (t : Tick) (k : ℕ) (on : Bool) → f (entry c (ticked t) k on) ≡ 0) → beforeLast f n rest ≡ sum f until
+  pub asked : (f : Entry → ℕ) → sum f until ≤ beforeLast f n rest
 
 find : (n : ℕ) (rest : List Entry) → 1 ≤ n → n ≤ begun rest → Found n rest
 unfolding beforeLast sum
@@ -221,7 +213,7 @@ find n (e ∷ rest) o h = by (decLe n (begun rest)) (λ p. find n rest o p)
           split = ap (λ (l : List Entry). e ∷ l) (x .split);
           burst = x .burst;
           last = x .last;
-          asked = λ f g. rw (le-ltb (begun rest) n p) (omega (arith, x .asked f g));
+          asked = λ f. rw (le-ltb (begun rest) n p) (omega (arith, x .asked f));
         }
     by (no p) earlier =
         let b : frontOf e ≡ BurstFront = burst-front (frontOf e) (omega arith) in
@@ -233,7 +225,7 @@ find n (e ∷ rest) o h = by (decLe n (begun rest)) (λ p. find n rest o p)
           split = refl;
           burst = b;
           last = omega arith;
-          asked = λ f g. rw (lt-ltb (begun rest) n (omega arith)) (omega (arith, front-asks f g e b, before-all f n rest (omega arith)));
+          asked = λ f. rw (lt-ltb (begun rest) n (omega arith)) (omega (arith, before-all f n rest (omega arith)));
         }
 
 -- an accepted start asks for a pulse at least
@@ -242,12 +234,12 @@ started-some D S i n P u (runs {m = zero} p q y on) = absurd (let f = on refl in
 started-some D S i n P u (runs {m = suc m} p q y on) = omega arith
 
 module _ (D S clock : ℕ) (cfg : Config D S) (small : clock < 2 ^ 32) where
-  some-pulse : {l : Line} (n P : ℕ) (before : List Entry) (e : Entry) → Coupled D S clock (e ∷ before) l → burstAsked e ≡ Start n P → 1 ≤ n
+  some-pulse : {l : Line} (n P : ℕ) (before : List Entry) (e : Entry) → Coupled D S clock (e ∷ before) l → granted e .burst ≡ Start n P → 1 ≤ n
   unfolding burstIn
   some-pulse n P before e (line-at {u = u} q b ag g x y) is = started-some D S (ticks (e ∷ before)) n P u (rw is at x)
 
   -- the positive form: if so many ticks follow, the last pulse begins within them
-  pub bound : {l : Line} (n P : ℕ) (rest before : List Entry) (e : Entry) → Run D S clock cfg (rest ++ (e ∷ before)) l → burstAsked e ≡ Start n P → cancelsBefore n rest ≡ 0 →
+  pub bound : {l : Line} (n P : ℕ) (rest before : List Entry) (e : Entry) → Run D S clock cfg (rest ++ (e ∷ before)) l → granted e .burst ≡ Start n P → cancelsBefore n rest ≡ 0 →
       deadline S n P (freshBefore n rest) ≤ ticks rest → LastBegins n (deadline S n P (freshBefore n rest)) rest
   unfolding ticks
   bound {l} n P rest before e r is kept-on long = by (decLe n (begun rest))
@@ -256,17 +248,17 @@ module _ (D S clock : ℕ) (cfg : Config D S) (small : clock < 2 ^ 32) where
       in-time x =
           let whole : rest ++ (e ∷ before) ≡ x .after ++ (x .front ∷ (x .until ++ (e ∷ before))) = rw (x .split) (append-assoc (x .after) (x .front ∷ x .until) (e ∷ before)) in
           let part = cut D S clock cfg (x .after ++ (x .front ∷ [])) (x .until ++ (e ∷ before)) (rw (whole, ← append-assoc (x .after) (x .front ∷ []) (x .until ++ (e ∷ before))) at r) in
-          rw (x .asked (λ e. isFresh (tariffAsked e)) (λ c t k on. refl))
-          (not-late D S clock cfg small n P (x .until) before e (part .1) is (sym (x .asked (λ e. isNone (burstAsked e)) (λ c t k on. refl)) ∙ kept-on) (omega (arith, x .last)))
+          let early = not-late D S clock cfg small n P (x .until) before e (part .1) is (omega (arith, x .asked (λ e. isNone (granted e .burst)))) (omega (arith, x .last)) in
+          omega (arith, early, mul-le-mul-right (2 * S) (x .asked (λ e. isFresh (granted e .tariff))))
 
       by : Dec (n ≤ begun rest) → LastBegins n (deadline S n P (freshBefore n rest)) rest
       by (no p) =
-          let all = before-all (λ e. isFresh (tariffAsked e)) n rest (omega arith) in
-          let early = not-late D S clock cfg small n P rest before e r is (sym (before-all (λ e. isNone (burstAsked e)) n rest (omega arith)) ∙ kept-on) (omega arith) in
+          let all = before-all (λ e. isFresh (granted e .tariff)) n rest (omega arith) in
+          let early = not-late D S clock cfg small n P rest before e r is (sym (before-all (λ e. isNone (granted e .burst)) n rest (omega arith)) ∙ kept-on) (omega arith) in
           absurd (omega (arith, rw (← all) at early))
       by (yes p) =
           let x = find n rest (some-pulse n P before e (coupled D S clock cfg small (cut D S clock cfg rest (e ∷ before) r .1)) is) p in
-          record { after = x .after; front = x .front; until = x .until; split = x .split; burst = x .burst; last = x .last; soon = soon-by x }
+          (x .after, x .until, x .front, x .split, x .burst, x .last, soon-by x)
         where
           soon-by : (x : Found n rest) → ticks (x .front ∷ x .until) ≤ deadline S n P (freshBefore n rest)
-          soon-by x = omega (arith, ticks-most (x .front) (ticks (x .until)), in-time x)
+          soon-by x = omega (arith, ticks-most (granted (x .front) .tick) (ticks (x .until)), in-time x)

@@ -32,7 +32,7 @@ use Rattle.line.specs.Rules.{oneMore, reportDue, cancelledBy, frontAt}
 use Rattle.line.specs.Lines.{freshLine, describeOf, hookOf, periodOf, noPeriodOf, auditOf, answeredBy, tariffChanged, burstChanged, withPeriod, countOf, tickWithFront, tickOf}
 use Rattle.line.specs.declared.Counters.{Counters}
 use Rattle.line.specs.declared.Line.{Line}
-use Rattle.demand.specs.Calls.{Call, describe, hook, period, noPeriod, audit, tick, lentTick, Entry}
+use Rattle.demand.specs.Calls.{Call, describe, hook, period, noPeriod, audit, tick, Entry}
 use Rattle.demand.specs.Machine.{rulingOf, Outcome, outcome, answered, step}
 use Rattle.descriptor.proofs.Causes.{none-first, none-after}
 use Rattle.demand.proofs.Coupled.{Config}
@@ -139,7 +139,6 @@ step-bounded l x (period n) = ruled n l (rulingOf l (period n)) x
 step-bounded l x noPeriod = ruled 0 l Allowed x
 step-bounded l x audit = x
 step-bounded l x tick = tick-bounded l x
-step-bounded l x lentTick = tick-bounded l x
 
 module _ (D S clock : ℕ) (cfg : Config D S) (small : clock < 2 ^ 32) where
   bounded-outcome : (o o′ : Outcome) → o ≡ o′ → OutcomeBounded o → OutcomeBounded o′

@@ -6,14 +6,13 @@ use native.Mathlib.Decide.{ℕ-discrete}
 use native.Mathlib.Omega.{arith}
 use borrow.Author.Tests.{ltb-true, le-leb, lt-leb, lt-ltb, le-ltb, eq-eqb, ne-eqb}
 use lib.Dec.{leb, ltb, eqb}
-use Rattle.answers.specs.declared.Front.the-variants.{Burst as BurstFront}
 use Rattle.tariff.specs.Steps.{roomOf}
 use Rattle.tariff.specs.declared.Tariff.{Tariff}
 use Rattle.burst.specs.Bursts.{heldMore, agedOf, readyOf, begunOf, isRunning, owedBy}
 use Rattle.burst.specs.declared.Burst.{Burst}
 use Rattle.burst.specs.declared.Burst.the-variants.{Idle, Running as Owing}
 use Rattle.burst.specs.declared.Aged.{Aged}
-use Rattle.demand.specs.History.{Last, never, at, passed, Started, started, begunBy, burstCompletes, burstReady, burstRuns, owedOf}
+use Rattle.demand.specs.History.{Last, never, at, passed, Started, started, oneBegun, burstCompletes, burstReady, burstRuns, owedOf}
 use Rattle.demand.proofs.Held.{heldSince, Before, before-more, held-more, held-passed, same-le}
 use Rattle.demand.proofs.Coupled.{Config, BurstAt, none, runs, over}
 
@@ -72,7 +71,7 @@ module _ (D S : ℕ) (cfg : Config D S) (i : ℕ) where
   burst-ready b u (over {n = n} {k = k} p q) last y since w t = rw (le-ltb k n p)
 
   -- a front of it
-  pub burst-begun : (b : Started) (u : Burst) → BurstAt D S i b u → burstReady S b i ≡ true → BurstAt D S i (begunBy BurstFront i b) (begunOf u)
+  pub burst-begun : (b : Started) (u : Burst) → BurstAt D S i b u → burstReady S b i ≡ true → BurstAt D S i (oneBegun i b) (begunOf u)
   burst-begun b u none h = absurd (let o : _≡_ {A = ℕ} 0 1 = cc in omega arith)
   burst-begun b u (runs {n = n} {P = P} {k = k} {m = m} e s x on) h =
       let l = ltb-true k n (and-eq-true-iff (ltb k n) _ .0 h .0) in

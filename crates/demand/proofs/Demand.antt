@@ -23,10 +23,10 @@ use Rattle.descriptor.specs.declared.Hook.the-variants.{Stop}
 use Rattle.line.specs.Rules.{frontAt}
 use Rattle.line.specs.Lines.{freshLine, makeOf, onOf}
 use Rattle.line.specs.declared.Line.{Line}
-use Rattle.demand.specs.Calls.{Call, hook, audit, Answer, accepted, counters, ticked, Entry, entry}
-use Rattle.demand.specs.History.{tariffAsked, frontOf, frontTold, ticks, running, owed, total, sinceReport, countBy, zeroedBy}
-use Rattle.demand.specs.Answers.{burstMayStart, answerAfter}
-use Rattle.demand.specs.Machine.{Outcome, outcome, step, Past, past, noted, afterCall, afterCalls, entries, lineAfter, history}
+use Rattle.demand.specs.Calls.{Call, hook, audit, Answer, accepted, counters, ticked, Entry, asks}
+use Rattle.demand.specs.History.{unlessRefused, granted, told, frontOf, ticks, running, owed, total, sinceReport, countBy, zeroedBy}
+use Rattle.demand.specs.Answers.{answerAfter}
+use Rattle.demand.specs.Machine.{entryOf, Outcome, outcome, step, Past, past, noted, afterCall, afterCalls, entries, lineAfter, history}
 use Rattle.demand.specs.Demand.{frontsSinceEm, EndAnswers, Follows, Demand3}
 use Rattle.demand.proofs.Coupled.{Config}
 use Rattle.demand.proofs.AnswerKinds.{Kind, to-command, to-audit, to-tick, kind}
@@ -51,7 +51,7 @@ zeroed-held Phased n = refl
 total-is : (h : List Entry) → total h ≡ min 4294967295 (frontsSinceEm h)
 unfolding total frontsSinceEm
 total-is [] = omega arith
-total-is (e ∷ h) = rw (total-is h, counted-held (frontOf e) (frontsSinceEm h)) (zeroed-held (tariffAsked e) (isFront (frontOf e) + frontsSinceEm h))
+total-is (e ∷ h) = rw (total-is h, counted-held (frontOf e) (frontsSinceEm h)) (zeroed-held (granted e .tariff) (isFront (frontOf e) + frontsSinceEm h))
 
 -- ---- slots
 tariff-front : (s : Slot) (may : Bool) → (frontAt s may ≡ TariffFront) ↔ (s ≡ Pulse)
@@ -60,14 +60,11 @@ tariff-front NoSlot false = (λ e. absurd (let o : _≡_ {A = ℕ} 0 1 = cc in o
 tariff-front Empty may = (λ e. absurd (let o : _≡_ {A = ℕ} 0 1 = cc in omega arith), λ e. absurd (let o : _≡_ {A = ℕ} 0 1 = cc in omega arith))
 tariff-front Pulse may = (λ e. refl, λ e. refl)
 
--- only a tick is answered with a front
-slot-front : (D S : ℕ) (h : List Entry) (t : Tick) (c : Call) (a : Answer) → a ≡ ticked t → Kind D S h c a → (t .front ≡ TariffFront) ↔ (slotAt (running D S h) (ticks h + 1) ≡ Pulse)
-slot-front D S h t c a e (to-command Allowed f) = absurd (let o : _≡_ {A = ℕ} 0 1 = cc in omega arith)
-slot-front D S h t c a e (to-command (TurnedDown r) f) = absurd (let o : _≡_ {A = ℕ} 0 1 = cc in omega arith)
-slot-front D S h t c a e to-audit = absurd (let o : _≡_ {A = ℕ} 0 1 = cc in omega arith)
-slot-front D S h t c a e (to-tick f) =
-    let due : t .front ≡ frontAt (slotAt (running D S h) (ticks h + 1)) (burstMayStart D S h (ticks h + 1)) = ap (λ (x : Answer). frontTold x) (sym e) in
-    rw due (tariff-front _ _)
+slot-front : (D S : ℕ) (h : List Entry) (c : Call) (a : Answer) → Kind D S h c a → unlessRefused a (asks c) .tick ≡ true → (told a .front ≡ TariffFront) ↔ (slotAt (running D S h) (ticks h + 1) ≡ Pulse)
+slot-front D S h c a (to-command Allowed f n) e = absurd (let o : _≡_ {A = ℕ} 0 1 = cc in omega arith)
+slot-front D S h c a (to-command (TurnedDown r) f n) e = absurd (let o : _≡_ {A = ℕ} 0 1 = cc in omega arith)
+slot-front D S h c a (to-audit n) e = absurd (let o : _≡_ {A = ℕ} 0 1 = cc in omega arith)
+slot-front D S h c a (to-tick n) e = tariff-front _ _
 
 -- ---- an accepted configuration
 config : (D G : ℕ) → soundConfiguration D G ≡ true → Config D (D + G)
@@ -89,10 +86,10 @@ calls-end p (d ∷ cs) c = calls-end (afterCall p d) cs c
 
 module _ (D S clock : ℕ) (cfg : Config D S) (small : clock < 2 ^ 32) where
   abbrev Ends : List Entry → Call → Past → Type 0
-  Ends h c p = (k : ℕ) × (on : Bool) × (entries p ≡ entry c (answerAfter D S h c) k on ∷ h)
+  Ends h c p = (e : Entry) × (entries p ≡ e ∷ h) × (e .answer ≡ answerAfter D S h c)
 
   noted-end : (h : List Entry) (c : Call) (o : Outcome) → Right D S clock cfg h c o → Ends h c (noted h c o)
-  noted-end h c (outcome a l) r = (l .clock, onOf l, ap (λ (x : Answer). entry c x (l .clock) (onOf l) ∷ h) (r .0))
+  noted-end h c (outcome a l) r = (entryOf c a l, refl, r .0)
 
   call-end : (p : Past) (c : Call) → Run D S clock cfg (entries p) (lineAfter p) → Ends (entries p) c (afterCall p c)
   call-end (past h l) c r = noted-end h c (step l c) (step-right D S clock cfg h (coupled D S clock cfg small r) c)
@@ -125,24 +122,20 @@ module _ (D G clock : ℕ) (sound : soundConfiguration D G ≡ true) (small : cl
   unfolding answerAfter
   audit-answers = rw (← total-is (history D G clock cs)) (end-answers audit)
 
-  pub follows : (after before : List Entry) (c : Call) (a : Answer) (k : ℕ) (on : Bool) → history D G clock cs ≡ after ++ (entry c a k on ∷ before) → Follows D G clock cs c a k on before
-  follows after before c a k on e =
-      let r = run-part after (entry c a k on ∷ before) e .1 in
-      let x = coupled D S clock cfg small r in
-      let reading = reads D S clock cfg r in
-      record {
-        answer = answer-right D S clock cfg small r;
-        clock-reads = reading .0 ∙ clock-agrees D S clock cfg (entry c a k on ∷ before) x;
-        on-reads = reading .1 ∙ on-agrees D S clock cfg (entry c a k on ∷ before) x;
-      }
+  follows-run : (before : List Entry) (e : Entry) {l : Line} → Run D S clock cfg (e ∷ before) l → Follows D G clock cs e before
+  follows-run before e r =
+      record { answer = answer-right D S clock cfg small r; clock-reads = reads D S clock cfg r .0 ∙ clock-agrees D S clock cfg (e ∷ before) (coupled D S clock cfg small r) }
 
   pub demand3 : Demand3 D G clock cs
   demand3 = record {
+    follows = λ after before e q. follows-run before e (run-part after (e ∷ before) q .1);
     sum = sum-run D S clock cfg small (run .1);
     stop = stop-answers;
-    bound = λ rest before e n P h. bound D S clock cfg small n P rest before e (rw h at (run .1));
-    slots = λ after before c t k on h. slot-front D S before t c (ticked t) refl (kind D S before c (answer-right D S clock cfg small (run-part after (entry c (ticked t) k on ∷ before) h .1)));
-    spacing = λ after between before f e h. spacing-run D S clock cfg small between before f e (run-part after (f ∷ (between ++ (e ∷ before))) h .1);
-    on = λ after before c a k o h. follows after before c a k o h .on-reads;
+    bound = λ rest before e n P q. bound D S clock cfg small n P rest before e (rw q at (run .1));
+    slots = λ after before e q. slot-front D S before (e .call) (e .answer) (kind D S before (e .call) (answer-right D S clock cfg small (run-part after (e ∷ before) q .1)));
+    spacing = λ after between before f e q. spacing-run D S clock cfg small between before f e (run-part after (f ∷ (between ++ (e ∷ before))) q .1);
+    on = λ after before e q.
+        let r = run-part after (e ∷ before) q .1 in
+        reads D S clock cfg r .1 ∙ on-agrees D S clock cfg (e ∷ before) (coupled D S clock cfg small r);
     total = audit-answers;
   }

@@ -26,9 +26,9 @@ use Rattle.line.specs.Rules.{cancelledBy, frontAt}
 use Rattle.line.specs.Lines.{describeOf, hookOf, periodOf, noPeriodOf, auditOf, tickOf, onOf, answeredBy, tariffChanged, burstChanged, withPeriod, tickWithFront, tickBy}
 use Rattle.line.specs.declared.Line.{Line}
 use Rattle.line.specs.declared.Ticked.{Ticked}
-use Rattle.demand.specs.Calls.{Call, describe, hook, period, noPeriod, audit, tick, lentTick, ticked, Entry, entry}
-use Rattle.demand.specs.History.{tariffAsked, burstAsked, frontOf, ticksBy, ticksAfter}
-use Rattle.demand.specs.Machine.{rulingOf, Outcome, outcome, answered, step}
+use Rattle.demand.specs.Calls.{Call, describe, hook, period, noPeriod, audit, tick, ticked, Entry, asks}
+use Rattle.demand.specs.History.{granted, frontOf}
+use Rattle.demand.specs.Machine.{rulingOf, entryOf, Outcome, outcome, answered, step}
 use Rattle.demand.specs.Demand.{isFresh, isNone}
 use Rattle.slots.proofs.Ahead.{nextOf, Waits, Good}
 use Rattle.slots.proofs.Agree.{Next, waits, empty, pulse}
@@ -41,17 +41,17 @@ use Rattle.demand.proofs.Potential.{Blocked, slot-near, front-near, own
 
 -- the entry is of a tick, or of another call
 abbrev pub IsTick : Entry → Type 0
-IsTick e = (n : ℕ) → ticksAfter e n ≡ n + 1
+IsTick e = granted e .tick ≡ true
 
 abbrev pub NoTick : Entry → Type 0
-NoTick e = (n : ℕ) → ticksAfter e n ≡ n
+NoTick e = granted e .tick ≡ false
 
 -- from w, v and a burst that owes m + 1 pulses at distance g, with k ticks since its last front
 pub data Effect (S w v m g k : ℕ) (e : Entry) (l : Line) : Type 0 where
-  cancels : isNone (burstAsked e) ≡ 1 → Effect S w v m g k e l
+  cancels : isNone (granted e .burst) ≡ 1 → Effect S w v m g k e l
   stays : NoTick e → frontOf e ≡ None → l .since ≡ w → nextOf (l .tariff) ≡ v → l .burst ≡ Owing (suc m) g k → Effect S w v m g k e l
   stops : NoTick e → frontOf e ≡ None → l .since ≡ w → nextOf (l .tariff) ≡ 0 → l .burst ≡ Owing (suc m) g k → Effect S w v m g k e l
-  begins : NoTick e → frontOf e ≡ None → isFresh (tariffAsked e) ≡ 1 → l .since ≡ w → l .burst ≡ Owing (suc m) g k → Effect S w v m g k e l
+  begins : NoTick e → frontOf e ≡ None → isFresh (granted e .tariff) ≡ 1 → l .since ≡ w → l .burst ≡ Owing (suc m) g k → Effect S w v m g k e l
   waiting : IsTick e → frontOf e ≡ None → (v ≡ 1 → ⊥) → Blocked S w g k v → l .since ≡ min S (w + 1) → nextOf (l .tariff) ≡ v - 1 → l .burst ≡ Owing (suc m) g (min g (k + 1)) → Effect S w v m g k e l
   empty-due : IsTick e → frontOf e ≡ None → v ≡ 1 → ((nextOf (l .tariff) ≡ 0 → ⊥) → 2 * S ≤ nextOf (l .tariff)) → l .since ≡ min S (w + 1) → l .burst ≡ Owing (suc m) g (min g (k + 1)) → Effect S w v m g k e l
   pulse-due : IsTick e → frontOf e ≡ TariffFront → v ≡ 1 → ((nextOf (l .tariff) ≡ 0 → ⊥) → 2 * S ≤ nextOf (l .tariff)) → l .since ≡ 0 → l .burst ≡ Owing (suc m) g (min g (k + 1)) → Effect S w v m g k e l
@@ -87,7 +87,7 @@ module _ (l : Line) (cfg : Config (l .pulse) (l .spacing)) (good : Good (l .spac
   fits : Waits (l .pulse)
   fits = record { some = omega arith; most = omega arith }
 
-  module _ (c : Call) (ticking : (n : ℕ) → ticksBy c n ≡ n + 1) where
+  module _ (c : Call) (ticking : asks c .tick ≡ true) where
     abbrev t′ : Stepped
     t′ = stepOf (l .pulse) (l .phases) (l .count) (l .tariff)
 
@@ -98,7 +98,7 @@ module _ (l : Line) (cfg : Config (l .pulse) (l .spacing)) (good : Good (l .spac
     may-start = readyOf S (min S (l .since + 1)) (Owing (suc m) g (min g (k + 1))) (t′ .tariff)
 
     abbrev TickEffect : Ticked → Type 0
-    TickEffect x = Effect S (l .since) (nextOf (l .tariff)) m g k (entry c (ticked (x .tick)) (x .line .clock) (onOf (x .line))) (x .line)
+    TickEffect x = Effect S (l .since) (nextOf (l .tariff)) m g k (entryOf c (ticked (x .tick)) (x .line)) (x .line)
 
     blocked : may-start ≡ false → nextOf (t′ .tariff) ≡ nextOf (l .tariff) - 1 → Blocked S (l .since) g k (nextOf (l .tariff))
     unfolding readyOf
@@ -121,32 +121,31 @@ module _ (l : Line) (cfg : Config (l .pulse) (l .spacing)) (good : Good (l .spac
 
   -- ---- the other calls
   abbrev pub EffectOf : Call → Outcome → Type 0
-  EffectOf c (outcome a l′) = Effect S (l .since) (nextOf (l .tariff)) m g k (entry c a (l′ .clock) (onOf l′)) l′
+  EffectOf c (outcome a l′) = Effect S (l .since) (nextOf (l .tariff)) m g k (entryOf c a l′) l′
 
   changed : (t : TariffPart) (ls : Lists) (b : BurstPart) (u : Ruling) → rulingOf l (describe t ls b) ≡ u →
       EffectOf (describe t ls b) (answered (answeredBy u l (burstChanged b (tariffChanged t (tableWith (phasesOf ls)) l)) (cancelledBy b (owedBy (l .burst)))))
   unfolding tariffChanged burstChanged
-  changed t ls b (TurnedDown r) e = stays (λ n. refl) refl refl refl owing
+  changed t ls b (TurnedDown r) e = stays refl refl refl refl owing
   changed t ls NoBurst Allowed e = cancels refl
   changed t ls (Start n P) Allowed e =
       absurd (let running : isRunning (l .burst) ≡ true = rw owing refl in let idle = starts-idle S (isEndless (l .tariff)) (isRunning (l .burst)) t ls n P e in let o : _≡_ {A = ℕ} 0 1 = cc in omega arith)
-  changed NoTariff ls KeepBurst Allowed e = stops (λ n. refl) refl refl refl owing
-  changed KeepTariff ls KeepBurst Allowed e = stays (λ n. refl) refl refl refl owing
-  changed (Rate P) ls KeepBurst Allowed e = stays (λ n. refl) refl refl (next-rate P (l .tariff)) owing
-  changed (Em C P) ls KeepBurst Allowed e = begins (λ n. refl) refl refl refl owing
-  changed Phased ls KeepBurst Allowed e = begins (λ n. refl) refl refl refl owing
+  changed NoTariff ls KeepBurst Allowed e = stops refl refl refl refl owing
+  changed KeepTariff ls KeepBurst Allowed e = stays refl refl refl refl owing
+  changed (Rate P) ls KeepBurst Allowed e = stays refl refl refl (next-rate P (l .tariff)) owing
+  changed (Em C P) ls KeepBurst Allowed e = begins refl refl refl refl owing
+  changed Phased ls KeepBurst Allowed e = begins refl refl refl refl owing
 
   ruled : (n : ℕ) (u : Ruling) → EffectOf (period n) (answered (answeredBy u l (withPeriod l n) 0))
-  ruled n Allowed = stays (λ j. refl) refl refl refl owing
-  ruled n (TurnedDown r) = stays (λ j. refl) refl refl refl owing
+  ruled n Allowed = stays refl refl refl refl owing
+  ruled n (TurnedDown r) = stays refl refl refl refl owing
 
   pub effect : (c : Call) → EffectOf c (step l c)
   unfolding step describeOf hookOf periodOf noPeriodOf auditOf
   effect (describe t ls b) = changed t ls b (rulingOf l (describe t ls b)) refl
-  effect (hook Keep) = stays (λ n. refl) refl refl refl owing
+  effect (hook Keep) = stays refl refl refl refl owing
   effect (hook Stop) = cancels refl
   effect (period n) = ruled n (rulingOf l (period n))
-  effect noPeriod = stays (λ n. refl) refl refl refl owing
-  effect audit = stays (λ n. refl) refl refl refl owing
-  effect tick = tick-effect tick (λ n. refl)
-  effect lentTick = tick-effect lentTick (λ n. refl)
+  effect noPeriod = stays refl refl refl refl owing
+  effect audit = stays refl refl refl refl owing
+  effect tick = tick-effect tick refl

@@ -14,7 +14,7 @@ use Rattle.line.specs.declared.Line.{Line}
 use Rattle.line.specs.declared.Answered.{Answered}
 use Rattle.line.specs.declared.Audited.{Audited}
 use Rattle.line.specs.declared.Ticked.{Ticked}
-use Rattle.demand.specs.Calls.{Call, describe, hook, period, noPeriod, audit, tick, lentTick, Answer, ticked, Entry, entry}
+use Rattle.demand.specs.Calls.{Call, describe, hook, period, noPeriod, audit, tick, Answer, ticked, Entry}
 use Rattle.demand.specs.Machine.{outcome, answered, audited, moved, step, past, noted, afterCalls, entries, history}
 
 -- each premise is the contract of the method that the comment names
@@ -34,9 +34,9 @@ pub record Methods : Type 0 where
   -- Line::tick
   pub ticks : (l : Line) (r : Ticked) → r ≡ tickOf l → step l tick ≡ moved r
   -- tick_in_place, which answers t and leaves l′
-  pub lent : (l l′ : Line) (t : Tick) → t ≡ tickOf l .tick → l′ ≡ tickOf l .line → step l lentTick ≡ outcome (ticked t) l′
+  pub lent : (l l′ : Line) (t : Tick) → t ≡ tickOf l .tick → l′ ≡ tickOf l .line → step l tick ≡ outcome (ticked t) l′
   -- Line::is_on, of the line that a call hands back or leaves
-  pub on : (h : List Entry) (c : Call) (a : Answer) (l : Line) (r : Bool) → r ≡ onOf l → noted h c (outcome a l) ≡ past (entry c a (l .clock) r ∷ h) l
+  pub on : (h : List Entry) (c : Call) (a : Answer) (l : Line) (r : Bool) → r ≡ onOf l → noted h c (outcome a l) ≡ past (record { call = c; answer = a; clock = l .clock; on = r } ∷ h) l
 
 pub methods : Methods
 unfolding step history

@@ -7,7 +7,7 @@ use Rattle.descriptor.specs.declared.Ruling.the-variants.{Allowed, TurnedDown}
 use Rattle.descriptor.specs.declared.Hook.the-variants.{Keep, Stop}
 use Rattle.line.specs.Lines.{describeOf, hookOf, periodOf, noPeriodOf, auditOf, answeredBy}
 use Rattle.line.specs.declared.Line.{Line}
-use Rattle.demand.specs.Calls.{Call, describe, hook, period, noPeriod, audit, tick, lentTick, refused}
+use Rattle.demand.specs.Calls.{Call, describe, hook, period, noPeriod, audit, tick, refused}
 use Rattle.demand.specs.Machine.{rulingOf, outcome, answered, step}
 
 ruled-keeps : (u : Ruling) (l changed l′ : Line) (k n : ℕ) → answered (answeredBy u l changed k) ≡ outcome (refused n) l′ → l′ ≡ l
@@ -23,4 +23,3 @@ refused-keeps l l′ (period p) n e = ruled-keeps (rulingOf l (period p)) l _ l�
 refused-keeps l l′ noPeriod n e = absurd (let o : _≡_ {A = ℕ} 0 1 = cc in omega arith)
 refused-keeps l l′ audit n e = absurd (let o : _≡_ {A = ℕ} 0 1 = cc in omega arith)
 refused-keeps l l′ tick n e = absurd (let o : _≡_ {A = ℕ} 0 1 = cc in omega arith)
-refused-keeps l l′ lentTick n e = absurd (let o : _≡_ {A = ℕ} 0 1 = cc in omega arith)

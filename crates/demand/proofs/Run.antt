@@ -21,10 +21,10 @@ use Rattle.burst.specs.declared.Burst.the-variants.{Idle as NoBurstRuns}
 use Rattle.line.specs.Rules.{cancelledBy}
 use Rattle.line.specs.Lines.{freshLine, describeOf, hookOf, periodOf, noPeriodOf, auditOf, onOf, answeredBy, tariffChanged, burstChanged, withPeriod, zeroCounters}
 use Rattle.line.specs.declared.Line.{Line}
-use Rattle.demand.specs.Calls.{Call, describe, hook, period, noPeriod, audit, tick, lentTick, Answer, accepted, counters, ticked, Entry, entry}
+use Rattle.demand.specs.Calls.{Call, describe, hook, period, noPeriod, audit, tick, Answer, accepted, counters, ticked, Entry}
 use Rattle.demand.specs.History.{ticks, lastFront, burstIn, owed, burstRuns, running, total, sinceReport, periodIn, pulseOn, never, idle}
 use Rattle.demand.specs.Answers.{rulingAfter, answerAfter}
-use Rattle.demand.specs.Machine.{rulingOf, Outcome, outcome, answered, step, Past, past, noted, afterCalls, entries, lineAfter}
+use Rattle.demand.specs.Machine.{rulingOf, entryOf, Outcome, outcome, answered, step, Past, past, noted, afterCalls, entries, lineAfter}
 use Rattle.slots.proofs.Fresh.{agree-idle}
 use Rattle.slots.proofs.Rate.{rate-runs}
 use Rattle.demand.proofs.Held.{held-on}
@@ -56,7 +56,7 @@ module _ (D S clock : ℕ) (cfg : Config D S) where
 
   -- a call's answer is the paper's, and the line after it is coupled
   abbrev pub Right : List Entry → Call → Outcome → Type 0
-  Right h c (outcome a l) = (a ≡ answerAfter D S h c) × Coupled D S clock (entry c a (l .clock) (onOf l) ∷ h) l
+  Right h c (outcome a l) = (a ≡ answerAfter D S h c) × Coupled D S clock (entryOf c a l ∷ h) l
 
   module _ (h : List Entry) {l : Line} (x : Coupled D S clock h l) where
     describe-right : (t : TariffPart) (ls : Lists) (b : BurstPart) (u : Ruling) → rulingAfter D S h (describe t ls b) ≡ u →
@@ -81,12 +81,11 @@ module _ (D S clock : ℕ) (cfg : Config D S) where
     step-right noPeriod = (refl, period-at D S clock cfg 0 x)
     step-right audit = (counters-agree h x, x)
     step-right tick = let k = tick-at D S clock cfg x in (ap ticked (k .0), k .1)
-    step-right lentTick = let k = tick-at D S clock cfg x in (ap ticked (k .0), k .1)
 
   -- ---- histories
   pub data Run : List Entry → Line → Type 0 where
     begin : Run [] (freshLine D S clock)
-    more : {h : List Entry} {l l′ : Line} {c : Call} {a : Answer} → Run h l → step l c ≡ outcome a l′ → Run (entry c a (l′ .clock) (onOf l′) ∷ h) l′
+    more : {h : List Entry} {l l′ : Line} {c : Call} {a : Answer} → Run h l → step l c ≡ outcome a l′ → Run (entryOf c a l′ ∷ h) l′
 
   -- a fresh line, whose clock fits 32 bits
   fresh-at : (k : ℕ) → k ≡ (clock + 0) % 2 ^ 32 →
@@ -102,7 +101,7 @@ module _ (D S clock : ℕ) (cfg : Config D S) where
     coupled begin = fresh-at clock (omega arith)
     coupled (more {h = h} {l = l} {c = c} r e) = right-of h c (step l c) e (step-right h (coupled r) c) .1
 
-    pub answer-right : {h : List Entry} {l : Line} {c : Call} {a : Answer} {k : ℕ} {on : Bool} → Run (entry c a k on ∷ h) l → a ≡ answerAfter D S h c
+    pub answer-right : {h : List Entry} {l : Line} {e : Entry} → Run (e ∷ h) l → e .answer ≡ answerAfter D S h (e .call)
     answer-right (more {h = h} {l = l} {c = c} r e) = right-of h c (step l c) e (step-right h (coupled r) c) .0
 
   -- ---- the history of a list of calls is such a run, and so is each part of it from the start on
@@ -128,5 +127,5 @@ module _ (D S clock : ℕ) (cfg : Config D S) where
   cut (e ∷ a) h (more r q) = cut a h r
 
   -- an entry reads the line that its call hands back or leaves
-  pub reads : {h : List Entry} {l : Line} {c : Call} {a : Answer} {k : ℕ} {on : Bool} → Run (entry c a k on ∷ h) l → (k ≡ l .clock) × (on ≡ onOf l)
+  pub reads : {h : List Entry} {l : Line} {e : Entry} → Run (e ∷ h) l → (e .clock ≡ l .clock) × (e .on ≡ onOf l)
   reads (more r e) = (refl, refl)

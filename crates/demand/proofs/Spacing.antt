@@ -1,11 +1,11 @@
 -- Any two fronts are at least S ticks apart.
-use mathlib.Core.Path.{_≡_, refl, sym, _∙_}
+use mathlib.Core.Path.{_≡_, refl, sym, ap, _∙_}
 use mathlib.Core.Bool.{Bool, true, false, and-eq-true-iff}
 use mathlib.Core.List.{List, [], _∷_, _++_}
 use Prim.Native.Nat.{ℕ, _+_, _^_, _≤_, _<_}
 use native.Mathlib.Omega.{arith}
 use borrow.Author.Tests.{leb-true, le-leb}
-use Rattle.answers.specs.Fronts.{isFront}
+use Rattle.answers.specs.Fronts.{ifFront, isFront}
 use Rattle.answers.specs.declared.Front.{Front}
 use Rattle.answers.specs.declared.Front.the-variants.{None, Tariff as TariffFront, Burst as BurstFront}
 use Rattle.tariff.specs.Steps.{stepOf}
@@ -15,8 +15,8 @@ use Rattle.slots.specs.Running.{slotAt}
 use Rattle.descriptor.specs.declared.Ruling.the-variants.{Allowed, TurnedDown}
 use Rattle.line.specs.Rules.{frontAt}
 use Rattle.line.specs.declared.Line.{Line}
-use Rattle.demand.specs.Calls.{Call, Answer, Entry}
-use Rattle.demand.specs.History.{frontOf, frontTold, ticks, ticksBy, Last, at, passed, lastFront, lastBy, burstIn, burstReady, running}
+use Rattle.demand.specs.Calls.{Call, Answer, Entry, Asked, asks}
+use Rattle.demand.specs.History.{unlessRefused, granted, told, frontOf, ticks, Last, at, passed, lastFront, burstIn, burstReady, running}
 use Rattle.demand.specs.Answers.{burstMayStart}
 use Rattle.slots.proofs.Ahead.{Waits}
 use Rattle.slots.proofs.Agree.{Next, waits, empty, pulse}
@@ -53,28 +53,28 @@ module _ (D S clock : ℕ) (cfg : Config D S) where
   due-passed h x Pulse may e m f = slot-passed h x e
 
   module _ (small : clock < 2 ^ 32) where
-    front-passed : (h : List Entry) {l : Line} → Coupled D S clock h l → (c : Call) (a : Answer) → Kind D S h c a → isFront (frontTold a) ≡ 1 →
-        (passed S (lastFront h) (ticks h + 1) ≡ true) × ((n : ℕ) → ticksBy c n ≡ n + 1)
-    front-passed h x c a (to-command Allowed e) f = absurd (omega arith)
-    front-passed h x c a (to-command (TurnedDown r) e) f = absurd (omega arith)
-    front-passed h x c a to-audit f = absurd (omega arith)
-    front-passed h x c a (to-tick t) f = (due-passed h x _ _ refl refl f, t)
+    front-passed : (h : List Entry) {l : Line} → Coupled D S clock h l → (c : Call) (a : Answer) → Kind D S h c a → isFront (told a .front) ≡ 1 →
+        (passed S (lastFront h) (ticks h + 1) ≡ true) × (unlessRefused a (asks c) .tick ≡ true)
+    front-passed h x c a (to-command Allowed e s) f = absurd (omega arith)
+    front-passed h x c a (to-command (TurnedDown r) e s) f = absurd (omega arith)
+    front-passed h x c a (to-audit s) f = absurd (omega arith)
+    front-passed h x c a (to-tick t) f = (due-passed h x _ _ refl refl f, ap (λ (y : Asked). y .tick) t)
 
     -- the last front of a list is not earlier than any front in it
     last-from : (between before : List Entry) (e : Entry) → isFront (frontOf e) ≡ 1 → (u : ℕ) × (lastFront (between ++ (e ∷ before)) ≡ at u) × (ticks before + 1 ≤ u)
     unfolding lastFront ticks
     last-from [] before e f = (ticks before + 1, front-last (frontOf e) f, omega arith)
       where
-        front-last : (x : Front) → isFront x ≡ 1 → lastBy x (ticks before + 1) (lastFront before) ≡ at (ticks before + 1)
+        front-last : (x : Front) → isFront x ≡ 1 → ifFront x (at (ticks before + 1)) (lastFront before) ≡ at (ticks before + 1)
         front-last None g = absurd (omega arith)
         front-last TariffFront g = refl
         front-last BurstFront g = refl
     last-from (x ∷ between) before e f = by (frontOf x) (last-from between before e f)
       where
         later : ticks before + 1 ≤ ticks (between ++ (e ∷ before)) + 1
-        later = omega (arith, ticks-append between (e ∷ before), ticks-least e (ticks before))
+        later = omega (arith, ticks-append between (e ∷ before), ticks-least (granted e .tick) (ticks before))
 
-        by : (y : Front) → (u : ℕ) × (lastFront (between ++ (e ∷ before)) ≡ at u) × (ticks before + 1 ≤ u) → (u : ℕ) × (lastBy y (ticks (between ++ (e ∷ before)) + 1) (lastFront (between ++ (e ∷ before))) ≡ at u) × (ticks before + 1 ≤ u)
+        by : (y : Front) → (u : ℕ) × (lastFront (between ++ (e ∷ before)) ≡ at u) × (ticks before + 1 ≤ u) → (u : ℕ) × (ifFront y (at (ticks (between ++ (e ∷ before)) + 1)) (lastFront (between ++ (e ∷ before))) ≡ at u) × (ticks before + 1 ≤ u)
         by None (u, p, q) = (u, p, q)
         by TariffFront p = (ticks (between ++ (e ∷ before)) + 1, refl, later)
         by BurstFront p = (ticks (between ++ (e ∷ before)) + 1, refl, later)
@@ -88,4 +88,4 @@ module _ (D S clock : ℕ) (cfg : Config D S) where
         let now = front-passed (between ++ (e ∷ before)) (coupled D S clock cfg small r) c a (kind D S (between ++ (e ∷ before)) c (answer-right D S clock cfg small (more r q))) p in
         let last = last-from between before e o in
         let far = at-passed S (last .0) (ticks (between ++ (e ∷ before)) + 1) (lastFront (between ++ (e ∷ before))) (last .1) (now .0) in
-        omega (arith, now .1 (ticks between), last .2, ticks-append between (e ∷ before), ticks-most e (ticks before))
+        rw (now .1) (omega (arith, last .2, ticks-append between (e ∷ before), ticks-most (granted e .tick) (ticks before)))

@@ -6,7 +6,7 @@ use Prim.Native.Nat.{ℕ, _+_, _-_, _^_, max, _<_}
 use native.Mathlib.Omega.{arith}
 use borrow.Author.Tests.{ltb-true, ltb-false}
 use lib.Dec.{ltb}
-use Rattle.answers.specs.Fronts.{isBurstFront}
+use Rattle.answers.specs.Fronts.{ifBurst, isBurstFront}
 use Rattle.answers.specs.declared.Front.the-variants.{None, Burst as BurstFront}
 use Rattle.tariff.specs.declared.Slot.{Slot}
 use Rattle.tariff.specs.declared.Slot.the-variants.{None as NoSlot, Empty, Pulse}
@@ -18,8 +18,8 @@ use Rattle.descriptor.specs.declared.Hook.the-variants.{Keep, Stop}
 use Rattle.line.specs.Rules.{cancelledBy, frontAt}
 use Rattle.line.specs.Lines.{onOf}
 use Rattle.line.specs.declared.Line.{Line}
-use Rattle.demand.specs.Calls.{Call, describe, hook, period, noPeriod, audit, tick, lentTick, Answer, Entry, entry, burstPart}
-use Rattle.demand.specs.History.{burstAsked, frontOf, cancelledOf, startedBy, sum, ticks, acceptedPulses, begun, cancelled, at, passed, Started, idle, started, begunBy, burstBy, burstIn, owedOf, owed, burstRuns, burstReady, running}
+use Rattle.demand.specs.Calls.{Call, describe, hook, period, noPeriod, audit, tick, Answer, Entry, asks}
+use Rattle.demand.specs.History.{granted, frontOf, cancelledIn, pulsesOf, sum, ticks, acceptedPulses, begun, cancelled, at, passed, Started, idle, started, oneBegun, burstBy, burstIn, owedOf, owed, burstRuns, burstReady, running}
 use Rattle.demand.specs.Answers.{rulingAfter, burstMayStart}
 use Rattle.demand.proofs.Coupled.{Config}
 use Rattle.demand.proofs.Taken.{starts-idle}
@@ -36,7 +36,7 @@ idle-owes D (started n P k last) now h = by (ltb k n) refl
     by false e = let l = ltb-false k n e in omega arith
 
 -- a burst pulse that begins is one less owed
-begun-owes : (S now : ℕ) (b : Started) → burstReady S b now ≡ true → owedOf b ≡ 1 + owedOf (begunBy BurstFront now b)
+begun-owes : (S now : ℕ) (b : Started) → burstReady S b now ≡ true → owedOf b ≡ 1 + owedOf (oneBegun now b)
 begun-owes S now idle h = absurd (let o : _≡_ {A = ℕ} 0 1 = cc in omega arith)
 begun-owes S now (started n P k last) h =
     let l = ltb-true k n (and-eq-true-iff (ltb k n) (passed (max P S) last now) .0 h .0) in
@@ -44,11 +44,11 @@ begun-owes S now (started n P k last) h =
 
 -- what an entry adds to each count of the sum, where b is the burst before it
 abbrev Balanced : Entry → ℕ → Started → Type 0
-Balanced e now b = startedBy (burstAsked e) + owedOf b ≡ isBurstFront (frontOf e) + cancelledOf e + owedOf (burstBy (burstAsked e) (frontOf e) now b)
+Balanced e now b = pulsesOf (granted e .burst) + owedOf b ≡ isBurstFront (frontOf e) + cancelledIn (e .answer) + owedOf (burstBy (granted e .burst) (frontOf e) now b)
 
 module _ (D S : ℕ) (h : List Entry) (k : ℕ) (on : Bool) where
   -- a start is allowed only where nothing is owed
-  start-owes : (c : Call) (n P : ℕ) → rulingAfter D S h c ≡ Allowed → burstPart c ≡ Start n P → owed h ≡ 0
+  start-owes : (c : Call) (n P : ℕ) → rulingAfter D S h c ≡ Allowed → asks c .burst ≡ Start n P → owed h ≡ 0
   start-owes (describe t ls b) n P e f =
       idle-owes D (burstIn h) (ticks h) (starts-idle S (runsEndless (running D S h)) (burstRuns D (burstIn h) (ticks h)) t ls n P (rw f at e))
   start-owes (hook Keep) n P e f = absurd (let o : _≡_ {A = ℕ} 0 1 = cc in omega arith)
@@ -57,25 +57,25 @@ module _ (D S : ℕ) (h : List Entry) (k : ℕ) (on : Bool) where
   start-owes noPeriod n P e f = absurd (let o : _≡_ {A = ℕ} 0 1 = cc in omega arith)
   start-owes audit n P e f = absurd (let o : _≡_ {A = ℕ} 0 1 = cc in omega arith)
   start-owes tick n P e f = absurd (let o : _≡_ {A = ℕ} 0 1 = cc in omega arith)
-  start-owes lentTick n P e f = absurd (let o : _≡_ {A = ℕ} 0 1 = cc in omega arith)
 
-  part-owes : (b : BurstPart) → ((n P : ℕ) → b ≡ Start n P → owed h ≡ 0) → startedBy b + owed h ≡ 0 + cancelledBy b (owed h) + owedOf (burstBy b None (ticks h + 1) (burstIn h))
+  part-owes : (b : BurstPart) → ((n P : ℕ) → b ≡ Start n P → owed h ≡ 0) → pulsesOf b + owed h ≡ 0 + cancelledBy b (owed h) + owedOf (burstBy b None (ticks h + 1) (burstIn h))
   part-owes NoBurst start = omega arith
   part-owes KeepBurst start = omega arith
   part-owes (Start n P) start = let z = start n P refl in omega arith
 
-  front-owes : (s : Slot) (may : Bool) (b : Started) → (may ≡ true → burstReady S b (ticks h + 1) ≡ true) → owedOf b ≡ isBurstFront (frontAt s may) + owedOf (begunBy (frontAt s may) (ticks h + 1) b)
+  front-owes : (s : Slot) (may : Bool) (b : Started) → (may ≡ true → burstReady S b (ticks h + 1) ≡ true) → owedOf b ≡ isBurstFront (frontAt s may) + owedOf (ifBurst (frontAt s may) (oneBegun (ticks h + 1) b) b)
   front-owes NoSlot true b r = begun-owes S (ticks h + 1) b (r refl)
   front-owes NoSlot false b r = omega arith
   front-owes Empty may b r = omega arith
   front-owes Pulse may b r = omega arith
 
-  balanced : (c : Call) (a : Answer) → Kind D S h c a → Balanced (entry c a k on) (ticks h + 1) (burstIn h)
-  balanced c a (to-command Allowed e) = part-owes (burstPart c) (λ n P f. start-owes c n P e f)
-  balanced c a (to-command (TurnedDown r) e) = omega arith
-  balanced c a to-audit = omega arith
-  balanced c a (to-tick t) =
-      omega (arith, front-owes (slotAt (running D S h) (ticks h + 1)) (burstMayStart D S h (ticks h + 1)) (burstIn h) (λ e. and-eq-true-iff (burstReady S (burstIn h) (ticks h + 1)) _ .0 e .0))
+  balanced : (c : Call) (a : Answer) → Kind D S h c a → Balanced (record { call = c; answer = a; clock = k; on = on }) (ticks h + 1) (burstIn h)
+  balanced c a (to-command Allowed e s) = part-owes (asks c .burst) (λ n P f. start-owes c n P e f)
+  balanced c a (to-command (TurnedDown r) e s) = omega arith
+  balanced c a (to-audit s) = rw s (omega arith)
+  balanced c a (to-tick s) =
+      rw s
+      (omega (arith, front-owes (slotAt (running D S h) (ticks h + 1)) (burstMayStart D S h (ticks h + 1)) (burstIn h) (λ e. and-eq-true-iff (burstReady S (burstIn h) (ticks h + 1)) _ .0 e .0)))
 
 module _ (D S clock : ℕ) (cfg : Config D S) (small : clock < 2 ^ 32) where
   pub sum-run : {h : List Entry} {l : Line} → Run D S clock cfg h l → acceptedPulses h ≡ begun h + cancelled h + owed h

@@ -6,6 +6,7 @@ use Prim.Native.Nat.{ℕ, _+_, _-_, _%_, _^_, _≤_}
 use native.Mathlib.Omega.{arith}
 use borrow.Author.Tests.{leb-true, eqb-true}
 use lib.Dec.{leb, eqb}
+use Rattle.answers.specs.Fronts.{ifFront, ifBurst}
 use Rattle.answers.specs.declared.Front.{Front}
 use Rattle.answers.specs.declared.Tick.{Tick}
 use Rattle.tariff.specs.Steps.{stepOf, roomOf}
@@ -22,8 +23,7 @@ use Rattle.line.specs.Rules.{oneMore, reportDue, frontAt}
 use Rattle.line.specs.Lines.{countOf, tickWithFront, tickOf}
 use Rattle.line.specs.declared.Count.{Count}
 use Rattle.line.specs.declared.Line.{Line}
-use Rattle.demand.specs.History.{Last, at, passed, Started, lastBy, begunBy, burstCompletes, burstReady, countBy}
-use Rattle.demand.specs.Answers.{reportAt}
+use Rattle.demand.specs.History.{Last, at, passed, Started, oneBegun, burstCompletes, burstReady, countBy}
 use Rattle.slots.proofs.Ahead.{nextOf, Waits, Good}
 use Rattle.slots.proofs.Agree.{Agree, Next, waits, empty, pulse}
 use Rattle.slots.proofs.Tick.{good-step, next-step}
@@ -58,14 +58,14 @@ module _ (D S clock : ℕ) (cfg : Config D S) where
   -- what a tick after i others tells, by what the history says before it
   abbrev pub tickTold : ℕ → Last → Started → Running → ℕ → ℕ → Front → Tick
   tickTold i last b r pcslr rp f =
-      record { tariff = completesAt D r (i + 1); burst = burstCompletes D b (i + 1); front = f; report = reportAt f rp pcslr }
+      record { tariff = completesAt D r (i + 1); burst = burstCompletes D b (i + 1); front = f; report = ifFront f (reportDue rp (oneMore pcslr)) false }
 
   abbrev pub frontDue : ℕ → Last → Started → Running → Front
   frontDue i last b r = frontAt (slotAt r (i + 1)) (burstReady S b (i + 1) && (passed S last (i + 1) && quietFor r (i + 1) (S - 1)))
 
   abbrev pub After : ℕ → Last → Started → Running → ℕ → ℕ → ℕ → Tick → Line → Type 0
   After i last b r cpc pcslr rp k l =
-      At D S clock (i + 1) (lastBy (k .front) (i + 1) last) (begunBy (k .front) (i + 1) b) (cond (completesAt D r (i + 1)) nothing r) (countBy (k .front) cpc) (cond (k .report) 0 (countBy (k .front) pcslr)) rp l
+      At D S clock (i + 1) (ifFront (k .front) (at (i + 1)) last) (ifBurst (k .front) (oneBegun (i + 1) b) b) (cond (completesAt D r (i + 1)) nothing r) (countBy (k .front) cpc) (cond (k .report) 0 (countBy (k .front) pcslr)) rp l
 
   module _ (i : ℕ) (last : Last) (b : Started) (r : Running) (cpc pcslr rp : ℕ) (t : Tariff) (ps : List Phase) (n : ℕ) (u : Burst)
       (w : ℕ) (held : w ≡ heldSince S last i) (before : Before last i) (a : Agree D ps n r t i) (g : Good S ps n t) (x : BurstAt D S i b u) (y : Apart S w (nextOf t)) where

@@ -2,51 +2,51 @@
 use mathlib.Core.Bool.{Bool, false, _&&_}
 use mathlib.Core.List.{List}
 use Prim.Native.Nat.{ℕ, _+_, _-_}
-use Rattle.answers.specs.declared.Front.{Front}
-use Rattle.answers.specs.declared.Front.the-variants.{None, Tariff, Burst}
-use Rattle.answers.specs.declared.Tick.{Tick}
+use Rattle.answers.specs.Fronts.{ifFront}
 use Rattle.slots.specs.Running.{slotAt, quietFor, completesAt, runsEndless}
 use Rattle.descriptor.specs.Refusals.{ruling, numberOf}
-use Rattle.descriptor.specs.declared.Ruling.{Ruling}
-use Rattle.descriptor.specs.declared.Ruling.the-variants.{Allowed, TurnedDown}
 use Rattle.line.specs.Rules.{oneMore, reportDue, frontAt, cancelledBy}
-use Rattle.demand.specs.Calls.{Call, describe, hook, period, noPeriod, audit, tick, lentTick, Answer, accepted, refused, counters, ticked, Entry, burstPart, causes}
-use Rattle.demand.specs.History.{ticks, lastFront, passed, burstIn, owed, burstCompletes, burstRuns, burstReady, running, total, sinceReport, periodIn}
+use Rattle.demand.specs.Names.{Front, Tick, Ruling, Allowed, TurnedDown}
+use Rattle.demand.specs.Calls.{Call, describe, hook, period, noPeriod, audit, tick, asks, causes, Entry}
+use Rattle.demand.specs.Calls.{Answer, accepted, refused, counters, ticked}
+use Rattle.demand.specs.History.{ticks, lastFront, passed, burstIn, owed, burstCompletes, burstRuns, burstReady}
+use Rattle.demand.specs.History.{running, total, sinceReport, periodIn}
 
+-- accepted with the burst pulses cancelled, or refused with its number
 abbrev pub ruledAnswer : Ruling → ℕ → Answer
-ruledAnswer Allowed k = accepted k
-ruledAnswer (TurnedDown r) k = refused (numberOf r)
-
-abbrev pub reportAt : Front → ℕ → ℕ → Bool
-reportAt None rp pcslr = false
-reportAt Tariff rp pcslr = reportDue rp (oneMore pcslr)
-reportAt Burst rp pcslr = reportDue rp (oneMore pcslr)
+ruledAnswer u k = elim u [ Allowed ↦ accepted k | TurnedDown r ↦ refused (numberOf r) ]
 
 -- pulses of D ticks, fronts at least S apart
-module _ (D S : ℕ) where
-  abbrev pub rulingAfter : List Entry → Call → Ruling
-  rulingAfter h c = ruling (causes S (runsEndless (running D S h)) (burstRuns D (burstIn h) (ticks h)) c)
-
+module _ (D S : ℕ) (h : List Entry) where
   -- a burst pulse may start at tick now: one is owed, the distances have passed, and now + S is not past the next slot
-  abbrev pub burstMayStart : List Entry → ℕ → Bool
-  burstMayStart h now =
+  abbrev pub burstMayStart : ℕ → Bool
+  burstMayStart now =
       burstReady S (burstIn h) now && (passed S (lastFront h) now && quietFor (running D S h) now (S - 1))
 
-  abbrev pub tickWith : List Entry → ℕ → Front → Tick
-  tickWith h now front =
-      record { tariff = completesAt D (running D S h) now; burst = burstCompletes D (burstIn h) now; front = front; report = reportAt front (periodIn h) (sinceReport h) }
+  -- what a tick tells if its front, or none, is f
+  abbrev pub tickWith : ℕ → Front → Tick
+  tickWith now f =
+      record {
+        tariff = completesAt D (running D S h) now;
+        burst = burstCompletes D (burstIn h) now;
+        front = f;
+        report = ifFront f (reportDue (periodIn h) (oneMore (sinceReport h))) false;
+      }
 
-  abbrev pub tickAfter : List Entry → ℕ → Tick
-  tickAfter h now = tickWith h now (frontAt (slotAt (running D S h) now) (burstMayStart h now))
+  abbrev pub tickAfter : ℕ → Tick
+  tickAfter now = tickWith now (frontAt (slotAt (running D S h) now) (burstMayStart now))
 
-  abbrev pub commandAnswer : List Entry → Call → Answer
-  commandAnswer h c = ruledAnswer (rulingAfter h c) (cancelledBy (burstPart c) (owed h))
+  -- what the table of refusals makes of a command
+  abbrev pub rulingAfter : Call → Ruling
+  rulingAfter c = ruling (causes S (runsEndless (running D S h)) (burstRuns D (burstIn h) (ticks h)) c)
 
-  unfoldable pub answerAfter : List Entry → Call → Answer
-  answerAfter h (describe t ls b) = commandAnswer h (describe t ls b)
-  answerAfter h (hook k) = commandAnswer h (hook k)
-  answerAfter h (period n) = commandAnswer h (period n)
-  answerAfter h noPeriod = commandAnswer h noPeriod
-  answerAfter h audit = counters (total h) (sinceReport h)
-  answerAfter h tick = ticked (tickAfter h (ticks h + 1))
-  answerAfter h lentTick = ticked (tickAfter h (ticks h + 1))
+  abbrev pub commandAnswer : Call → Answer
+  commandAnswer c = ruledAnswer (rulingAfter c) (cancelledBy (asks c .burst) (owed h))
+
+  unfoldable pub answerAfter : Call → Answer
+  answerAfter (describe t ls b) = commandAnswer (describe t ls b)
+  answerAfter (hook event) = commandAnswer (hook event)
+  answerAfter (period rp) = commandAnswer (period rp)
+  answerAfter noPeriod = commandAnswer noPeriod
+  answerAfter audit = counters (total h) (sinceReport h)
+  answerAfter tick = ticked (tickAfter (ticks h + 1))

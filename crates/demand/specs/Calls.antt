@@ -1,76 +1,67 @@
--- The calls on a line, what they answer, and the record of a call.
-use mathlib.Core.Bool.{Bool}
+-- The calls on a line, the record of a call, and of each call what it asks and what it may be refused for.
+use mathlib.Core.Bool.{Bool, true, false}
 use mathlib.Core.List.{List, []}
 use Prim.Native.Nat.{ℕ}
-use Rattle.answers.specs.declared.Tick.{Tick}
-use Rattle.tariff.specs.declared.Phase.{Phase}
 use Rattle.phase_lists.specs.Lists.{Lists, phasesOf}
 use Rattle.descriptor.specs.Refusals.{Cause, descriptorCauses, periodCauses}
-use Rattle.descriptor.specs.declared.TariffPart.{TariffPart}
-use Rattle.descriptor.specs.declared.TariffPart.the-variants.{None as NoTariff, Keep as KeepTariff}
-use Rattle.descriptor.specs.declared.BurstPart.{BurstPart}
-use Rattle.descriptor.specs.declared.BurstPart.the-variants.{None as NoBurst, Keep as KeepBurst}
-use Rattle.descriptor.specs.declared.Hook.{Hook}
-use Rattle.descriptor.specs.declared.Hook.the-variants.{Keep, Stop}
+use Rattle.demand.specs.Names.{Tick, Phase, TariffPart, NoTariff, KeepTariff, BurstPart, NoBurst, KeepBurst}
+use Rattle.demand.specs.Names.{Hook, KeepHook, Stop}
 
 -- a tick on a lent record is a tick too
 pub data Call : Type 0 where
-  describe : TariffPart → Lists → BurstPart → Call
-  hook : Hook → Call
-  period : ℕ → Call
+  describe : (t : TariffPart) (ls : Lists) (b : BurstPart) → Call
+  hook : (event : Hook) → Call
+  period : (rp : ℕ) → Call
   noPeriod : Call
   audit : Call
   tick : Call
-  lentTick : Call
 
--- the burst pulses cancelled; a refusal's number; cpc and pcslr; what a tick tells
+-- the burst pulses cancelled; a refusal's number; both counters; what a tick tells
 pub data Answer : Type 0 where
-  accepted : ℕ → Answer
-  refused : ℕ → Answer
-  counters : ℕ → ℕ → Answer
-  ticked : Tick → Answer
+  accepted : (cancelled : ℕ) → Answer
+  refused : (number : ℕ) → Answer
+  counters : (cpc pcslr : ℕ) → Answer
+  ticked : (t : Tick) → Answer
 
 -- a call, its answer, and the clock and whether a pulse is on in the line that it hands back or leaves
-pub data Entry : Type 0 where
-  entry : Call → Answer → ℕ → Bool → Entry
+pub record Entry : Type 0 where
+  pub call : Call
+  pub answer : Answer
+  pub clock : ℕ
+  pub on : Bool
 
--- what a call asks of the tariff and of the burst; a hook stop ends the one and cancels the other
-abbrev pub tariffPart : Call → TariffPart
-tariffPart (describe t ls b) = t
-tariffPart (hook Keep) = KeepTariff
-tariffPart (hook Stop) = NoTariff
-tariffPart (period n) = KeepTariff
-tariffPart noPeriod = KeepTariff
-tariffPart audit = KeepTariff
-tariffPart tick = KeepTariff
-tariffPart lentTick = KeepTariff
+-- a tariff part with its phases, a burst part, the report period by the one before, and whether the call is a tick
+pub record Asked : Type 0 where
+  pub tariff : TariffPart
+  pub phases : List Phase
+  pub burst : BurstPart
+  pub period : ℕ → ℕ
+  pub tick : Bool
 
-abbrev pub burstPart : Call → BurstPart
-burstPart (describe t ls b) = b
-burstPart (hook Keep) = KeepBurst
-burstPart (hook Stop) = NoBurst
-burstPart (period n) = KeepBurst
-burstPart noPeriod = KeepBurst
-burstPart audit = KeepBurst
-burstPart tick = KeepBurst
-burstPart lentTick = KeepBurst
+abbrev pub asksParts : TariffPart → List Phase → BurstPart → Asked
+asksParts t ps b = record { tariff = t; phases = ps; burst = b; period = λ rp. rp; tick = false }
 
--- the phases that a phased descriptor gives
-abbrev pub phasesIn : Call → List Phase
-phasesIn (describe t ls b) = phasesOf ls
-phasesIn (hook k) = []
-phasesIn (period n) = []
-phasesIn noPeriod = []
-phasesIn audit = []
-phasesIn tick = []
-phasesIn lentTick = []
+abbrev pub asksPeriod : ℕ → Asked
+asksPeriod n = record { tariff = KeepTariff; phases = []; burst = KeepBurst; period = λ rp. n; tick = false }
 
--- what a call may be turned down for, on a line of spacing S: whether an em with C = 0 runs, and whether a burst runs
+abbrev pub asksTick : Asked
+asksTick = record { tariff = KeepTariff; phases = []; burst = KeepBurst; period = λ rp. rp; tick = true }
+
+-- what a call asks; a report period of 0 is none
+abbrev pub asks : Call → Asked
+asks (describe t ls b) = asksParts t (phasesOf ls) b
+asks (hook KeepHook) = asksParts KeepTariff [] KeepBurst
+asks (hook Stop) = asksParts NoTariff [] NoBurst
+asks (period rp) = asksPeriod rp
+asks noPeriod = asksPeriod 0
+asks audit = asksParts KeepTariff [] KeepBurst
+asks tick = asksTick
+
+-- what it may be refused for, on a line of spacing S: whether an em with C = 0 runs, and whether a burst runs
 abbrev pub causes : ℕ → Bool → Bool → Call → List Cause
 causes S endlessRuns burstRuns (describe t ls b) = descriptorCauses S endlessRuns burstRuns t ls b
-causes S endlessRuns burstRuns (hook k) = []
-causes S endlessRuns burstRuns (period n) = periodCauses n
+causes S endlessRuns burstRuns (hook event) = []
+causes S endlessRuns burstRuns (period rp) = periodCauses rp
 causes S endlessRuns burstRuns noPeriod = []
 causes S endlessRuns burstRuns audit = []
 causes S endlessRuns burstRuns tick = []
-causes S endlessRuns burstRuns lentTick = []

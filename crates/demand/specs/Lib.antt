@@ -1,4 +1,5 @@
 -- The files of this folder, lowest first.
+pub mod Names
 pub mod Calls
 pub mod History
 pub mod Answers

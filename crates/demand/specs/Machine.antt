@@ -3,7 +3,6 @@ use mathlib.Core.List.{List, [], _∷_}
 use Prim.Native.Nat.{ℕ}
 use Rattle.tariff.specs.Steps.{isEndless}
 use Rattle.descriptor.specs.Refusals.{numberOf, ruling}
-use Rattle.descriptor.specs.declared.Ruling.{Ruling}
 use Rattle.burst.specs.Bursts.{isRunning}
 use Rattle.line.specs.Lines.{makeOf, describeOf, hookOf, periodOf, noPeriodOf, auditOf, tickOf, onOf}
 use Rattle.line.specs.declared.Line.{Line}
@@ -12,7 +11,9 @@ use Rattle.line.specs.declared.Verdict.the-variants.{Accepted, Refused}
 use Rattle.line.specs.declared.Answered.{Answered}
 use Rattle.line.specs.declared.Audited.{Audited}
 use Rattle.line.specs.declared.Ticked.{Ticked}
-use Rattle.demand.specs.Calls.{Call, describe, hook, period, noPeriod, audit, tick, lentTick, Answer, accepted, refused, counters, ticked, Entry, entry, causes}
+use Rattle.demand.specs.Names.{Ruling}
+use Rattle.demand.specs.Calls.{Call, describe, hook, period, noPeriod, audit, tick}
+use Rattle.demand.specs.Calls.{Answer, accepted, refused, counters, ticked, Entry, causes}
 
 -- the number and the value of each case of a verdict
 abbrev pub verdictTold : Verdict → Answer
@@ -21,7 +22,7 @@ verdictTold (Refused r) = refused (numberOf r)
 
 -- a call's answer and the line after it
 pub data Outcome : Type 0 where
-  outcome : Answer → Line → Outcome
+  outcome : (a : Answer) (l : Line) → Outcome
 
 abbrev pub answered : Answered → Outcome
 answered r = outcome (verdictTold (r .verdict)) (r .line)
@@ -34,23 +35,26 @@ moved r = outcome (ticked (r .tick)) (r .line)
 
 unfoldable pub step : Line → Call → Outcome
 step l (describe t ls b) = answered (describeOf l t ls b)
-step l (hook k) = answered (hookOf l k)
-step l (period n) = answered (periodOf l n)
+step l (hook event) = answered (hookOf l event)
+step l (period rp) = answered (periodOf l rp)
 step l noPeriod = answered (noPeriodOf l)
 step l audit = audited (auditOf l)
 step l tick = moved (tickOf l)
-step l lentTick = moved (tickOf l)
 
 -- what the table of refusals makes of a call on this line
 abbrev pub rulingOf : Line → Call → Ruling
 rulingOf l c = ruling (causes (l .spacing) (isEndless (l .tariff)) (isRunning (l .burst)) c)
 
+-- the entry of a call that was answered a and left the line l
+abbrev pub entryOf : Call → Answer → Line → Entry
+entryOf c a l = record { call = c; answer = a; clock = l .clock; on = onOf l }
+
 -- a history, newest first, and the line after it
 pub data Past : Type 0 where
-  past : List Entry → Line → Past
+  past : (h : List Entry) (l : Line) → Past
 
 abbrev pub noted : List Entry → Call → Outcome → Past
-noted h c (outcome a l) = past (entry c a (l .clock) (onOf l) ∷ h) l
+noted h c (outcome a l) = past (entryOf c a l ∷ h) l
 
 abbrev pub afterCall : Past → Call → Past
 afterCall (past h l) c = noted h c (step l c)

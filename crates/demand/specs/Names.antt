@@ -1,0 +1,15 @@
+-- What calls carry and ticks tell, under names that do not clash.
+pub use Rattle.answers.specs.declared.Front.{Front}
+pub use Rattle.answers.specs.declared.Front.the-variants.{None as NoFront, Tariff as TariffFront, Burst as BurstFront}
+pub use Rattle.answers.specs.declared.Tick.{Tick}
+pub use Rattle.tariff.specs.declared.Phase.{Phase}
+pub use Rattle.tariff.specs.declared.Slot.{Slot}
+pub use Rattle.tariff.specs.declared.Slot.the-variants.{None as NoSlot, Empty, Pulse}
+pub use Rattle.descriptor.specs.declared.TariffPart.{TariffPart}
+pub use Rattle.descriptor.specs.declared.TariffPart.the-variants.{None as NoTariff, Keep as KeepTariff, Rate, Em, Phased}
+pub use Rattle.descriptor.specs.declared.BurstPart.{BurstPart}
+pub use Rattle.descriptor.specs.declared.BurstPart.the-variants.{None as NoBurst, Keep as KeepBurst, Start}
+pub use Rattle.descriptor.specs.declared.Hook.{Hook}
+pub use Rattle.descriptor.specs.declared.Hook.the-variants.{Keep as KeepHook, Stop}
+pub use Rattle.descriptor.specs.declared.Ruling.{Ruling}
+pub use Rattle.descriptor.specs.declared.Ruling.the-variants.{Allowed, TurnedDown}
