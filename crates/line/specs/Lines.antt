@@ -1,7 +1,7 @@
 -- What each command makes of a line and answers: what the code computes.
 use mathlib.Core.Bool.{Bool, true, false, cond}
-use Prim.Native.Nat.{ℕ, zero, suc, _+_, _-_, _%_, _^_, max}
-use lib.Dec.{leb, ltb}
+use Prim.Native.Nat.{ℕ, _+_, _-_, _%_, _^_, max}
+use lib.Dec.{ltb}
 use Rattle.answers.specs.declared.Front.{Front}
 use Rattle.answers.specs.declared.Front.the-variants.{None, Tariff as TariffFront, Burst as BurstFront}
 use Rattle.answers.specs.declared.Tick.{Tick}
@@ -159,15 +159,6 @@ tickBy l t b since = tickWithFront l t b since (frontAt (t .slot) (readyOf (l .s
 -- the clock goes up; what is over ends; a slot due now, or else a burst pulse, begins
 unfoldable pub tickOf : Line → Ticked
 tickOf l = tickBy l (stepOf (l .pulse) (l .phases) (l .count) (l .tariff)) (agedOf (l .pulse) (l .burst)) (heldMore (l .spacing) (l .since))
-
--- n ticks one after the other, their answers left aside
-unfoldable pub afterTicks : ℕ → Line → Line
-afterTicks zero l = l
-afterTicks (suc n) l = tickOf (afterTicks n l) .line
-
--- up to 1,000,000 ticks at once; more are not made, and the line stays as it was
-unfoldable pub ticksOf : ℕ → Line → Line
-ticksOf n l = cond (leb n 1000000) (afterTicks n l) l
 
 -- a pulse is on: fewer than D ticks since the last front
 unfoldable pub onOf : Line → Bool
