@@ -2,7 +2,7 @@
 use mathlib.Core.Bool.{cond}
 use Prim.Native.Nat.{ℕ, _+_}
 use lib.ListN.{getD, take}
-use Rattle.pulse_map.specs.Tariff.{Components, componentsOf}
+use Rattle.pulse_map.specs.Components.{Components, componentsOf}
 use Rattle.pulse_map.specs.Map.{Entry, N, mapOf, xsIn}
 use Rattle.pulse_map.specs.Pulses.{pulsesIn}
 use Rattle.pulse_map.specs.Refusals.{noTariff, noMap}

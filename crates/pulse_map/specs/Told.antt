@@ -1,6 +1,6 @@
 -- The paper's number and values of each case that a public function returns.
 use Prim.Native.Nat.{ℕ}
-use Rattle.pulse_map.specs.Tariff.{Components}
+use Rattle.pulse_map.specs.Components.{Components}
 use Rattle.pulse_map.specs.Map.{Entry, X, N}
 use Rattle.pulse_map.specs.Answers.{Answer, refused, given}
 use Rattle.pulse_map.specs.declared.Parameters.{Parameters}
