@@ -47,14 +47,14 @@ pub data Reply : Type 0 where
   no : ℕ → Reply
 
 -- The number of a refusal in the paper's table.
-abbrev pub numberOf : Refusal → ℕ
-numberOf OutOfRange = 10
-numberOf InvalidCombination = 459
+abbrev pub detectorNumber : Refusal → ℕ
+detectorNumber OutOfRange = 10
+detectorNumber InvalidCombination = 459
 
 -- The answer's meaning.
 abbrev pub replyOf : Answer → Reply
 replyOf Accepted = ok
-replyOf (Refused r) = no (numberOf r)
+replyOf (Refused r) = no (detectorNumber r)
 
 -- pr and ric together.
 abbrev pub together : Events → Bool
