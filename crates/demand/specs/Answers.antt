@@ -6,7 +6,7 @@ use Rattle.answers.specs.declared.Front.{Front}
 use Rattle.answers.specs.declared.Front.the-variants.{None, Tariff, Burst}
 use Rattle.answers.specs.declared.Tick.{Tick}
 use Rattle.slots.specs.Running.{slotAt, quietFor, completesAt, runsEndless}
-use Rattle.descriptor.specs.Refusals.{ruling, numberOf}
+use Rattle.descriptor.specs.Refusals.{ruling, refusalNumber}
 use Rattle.descriptor.specs.declared.Ruling.{Ruling}
 use Rattle.descriptor.specs.declared.Ruling.the-variants.{Allowed, TurnedDown}
 use Rattle.line.specs.Rules.{oneMore, reportDue, frontAt, cancelledBy}
@@ -15,7 +15,7 @@ use Rattle.demand.specs.History.{ticks, lastFront, passed, burstIn, owed
 
 abbrev pub ruledAnswer : Ruling → ℕ → Answer
 ruledAnswer Allowed k = accepted k
-ruledAnswer (TurnedDown r) k = refused (numberOf r)
+ruledAnswer (TurnedDown r) k = refused (refusalNumber r)
 
 abbrev pub reportAt : Front → ℕ → ℕ → Bool
 reportAt None rp pcslr = false
