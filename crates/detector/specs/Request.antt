@@ -1,8 +1,7 @@
 -- What a detector is asked for, and the answer.
 use Prim.Native.Nat.{ℕ}
-use mathlib.Core.Bool.{Bool, true, false, _&&_, _||_}
+use mathlib.Core.Bool.{Bool, true, false, cond, _&&_, _||_}
 use lib.Dec.{ltb, eqb}
-use Rattle.detector.specs.Values.{pick}
 use Rattle.detector.specs.declared.request.Request.{Request}
 use Rattle.detector.specs.declared.request.Request.the-variants.{Off, Pr, Ric}
 use Rattle.detector.specs.declared.request.Events.{Events}
@@ -72,4 +71,4 @@ outOfRange (Both rp rit) = eqb rp 0 || ltb 60000 rit
 
 -- 459 comes before 10.
 abbrev pub replyTo : Events → Reply
-replyTo events = pick (together events) (no 459) (pick (outOfRange events) (no 10) ok)
+replyTo events = cond (together events) (no 459) (cond (outOfRange events) (no 10) ok)
