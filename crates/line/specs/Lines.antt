@@ -46,11 +46,16 @@ unfoldable pub freshLine : ℕ → ℕ → ℕ → Line
 freshLine D S clock =
     record { pulse = D; spacing = S; clock = clock; since = S; tariff = Idle; phases = noPhases; count = 0; burst = NoBurstRuns; counters = zeroCounters 0 }
 
+-- begins no pulse: 2S is above every interval that an em or a phase may have, and a burst pulse waits for S ticks
+unfoldable pub blankLine : Line
+blankLine =
+    record { pulse = 0; spacing = 4294967295; clock = 0; since = 0; tariff = Idle; phases = noPhases; count = 0; burst = NoBurstRuns; counters = zeroCounters 0 }
+
 -- where the configuration is refused, a blank line stands in the answer
 unfoldable pub makeOf : ℕ → ℕ → ℕ → Answered
 makeOf D G clock =
     cond (soundConfiguration D G) (record { line = freshLine D (D + G) clock; verdict = Accepted 0 })
-    (record { line = freshLine 0 0 0; verdict = Refused Configuration })
+    (record { line = blankLine; verdict = Refused Configuration })
 
 -- ---- descriptors and hook events
 
