@@ -4,7 +4,7 @@ use mathlib.Core.List.{List}
 use Prim.Native.Nat.{ℕ, _+_, _-_}
 use Rattle.answers.specs.Fronts.{ifFront}
 use Rattle.slots.specs.Running.{slotAt, quietFor, completesAt, runsEndless}
-use Rattle.descriptor.specs.Refusals.{ruling, numberOf}
+use Rattle.descriptor.specs.Refusals.{ruling, refusalNumber}
 use Rattle.line.specs.Rules.{oneMore, reportDue, frontAt, cancelledBy}
 use Rattle.demand.specs.Names.{Front, Tick, Ruling, Allowed, TurnedDown}
 use Rattle.demand.specs.Calls.{Call, describe, hook, period, noPeriod, audit, tick, asks, causes, Entry}
@@ -14,7 +14,7 @@ use Rattle.demand.specs.History.{running, total, sinceReport, periodIn}
 
 -- accepted with the burst pulses cancelled, or refused with its number
 abbrev pub ruledAnswer : Ruling → ℕ → Answer
-ruledAnswer u k = elim u [ Allowed ↦ accepted k | TurnedDown r ↦ refused (numberOf r) ]
+ruledAnswer u k = elim u [ Allowed ↦ accepted k | TurnedDown r ↦ refused (refusalNumber r) ]
 
 -- pulses of D ticks, fronts at least S apart
 module _ (D S : ℕ) (h : List Entry) where

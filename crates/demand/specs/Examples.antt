@@ -9,7 +9,7 @@ use Rattle.pulse_map.specs.Pulses.{pulsesIn}
 use Rattle.pulse_map.specs.Examples.{Example, starred, Holds}
 use Rattle.tariff.specs.Rules.{soundEm, distanceOf}
 use Rattle.tariff.specs.declared.Slot.{Slot}
-use Rattle.slots.specs.Running.{isNone}
+use Rattle.slots.specs.Running.{noSlot}
 use Rattle.slots.specs.Slots.{anyBelow, countedSlot}
 use Rattle.phase_lists.specs.Lists.{noLists}
 use Rattle.descriptor.specs.Refusals.{ruling}
@@ -21,7 +21,7 @@ use Rattle.demand.specs.Answers.{answerAfter}
 -- the ticks below n at which a tariff has a slot, counted from its origin
 abbrev pub slotsBelow : (ℕ → Slot) → ℕ → List ℕ
 slotsBelow slot zero = []
-slotsBelow slot (suc n) = slotsBelow slot n ++ cond (isNone (slot n)) [] (n ∷ [])
+slotsBelow slot (suc n) = slotsBelow slot n ++ cond (noSlot (slot n)) [] (n ∷ [])
 
 -- an example, as the paper writes it
 pub data Starred : Type 0 where

@@ -2,7 +2,7 @@
 use mathlib.Core.List.{List, [], _∷_}
 use Prim.Native.Nat.{ℕ}
 use Rattle.tariff.specs.Steps.{isEndless}
-use Rattle.descriptor.specs.Refusals.{numberOf, ruling}
+use Rattle.descriptor.specs.Refusals.{refusalNumber, ruling}
 use Rattle.burst.specs.Bursts.{isRunning}
 use Rattle.line.specs.Lines.{makeOf, describeOf, hookOf, periodOf, noPeriodOf, auditOf, tickOf, onOf}
 use Rattle.line.specs.declared.Line.{Line}
@@ -18,7 +18,7 @@ use Rattle.demand.specs.Calls.{Answer, accepted, refused, counters, tick
 -- the number and the value of each case of a verdict
 abbrev pub verdictTold : Verdict → Answer
 verdictTold (Accepted k) = accepted k
-verdictTold (Refused r) = refused (numberOf r)
+verdictTold (Refused r) = refused (refusalNumber r)
 
 -- a call's answer and the line after it
 pub data Outcome : Type 0 where

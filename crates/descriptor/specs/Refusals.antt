@@ -15,15 +15,15 @@ use Rattle.descriptor.specs.declared.Ruling.the-variants.{Allowed, Turne
 use Rattle.descriptor.specs.declared.Refusal.the-variants.{Configuration, Period, NoEndlessEm, Interval, Lists as PhaseLists, Phase, Burst, BurstRuns}
 
 -- the paper's number of each cause
-abbrev pub numberOf : Refusal → ℕ
-numberOf Configuration = 1
-numberOf Period = 2
-numberOf NoEndlessEm = 3
-numberOf Interval = 4
-numberOf PhaseLists = 5
-numberOf Phase = 6
-numberOf Burst = 7
-numberOf BurstRuns = 8
+abbrev pub refusalNumber : Refusal → ℕ
+refusalNumber Configuration = 1
+refusalNumber Period = 2
+refusalNumber NoEndlessEm = 3
+refusalNumber Interval = 4
+refusalNumber PhaseLists = 5
+refusalNumber Phase = 6
+refusalNumber Burst = 7
+refusalNumber BurstRuns = 8
 
 -- a cause to refuse a call, and whether it applies
 pub data Cause : Type 0 where

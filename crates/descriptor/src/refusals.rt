@@ -2,7 +2,7 @@
 ghost use mathlib.Core.Path.{_≡_};
 ghost use mathlib.Core.Bool.{false};
 ghost use Rattle.phase_lists.specs.Tables.{noTable};
-ghost use Rattle.descriptor.specs.Refusals.{numberOf, soundConfiguration, soundBurst};
+ghost use Rattle.descriptor.specs.Refusals.{refusalNumber, soundConfiguration, soundBurst};
 ghost use Rattle.descriptor.specs.Rulings.{tariffRuling, burstRuling, descriptorRuling};
 ghost use Rattle.descriptor.specs.declared.TariffPart.the-variants.{Rate, Em, Phased};
 use super::BurstPart;
@@ -14,7 +14,7 @@ use phase_lists::PhaseTable;
 impl Refusal {
     // The paper's number.
     pub fn number(self) -> u32
-        ensures { λ r. ⌜ r ≡ numberOf self ⌝ }
+        ensures { λ r. ⌜ r ≡ refusalNumber self ⌝ }
     {
         match self {
             Refusal::Configuration => 1,

@@ -1,6 +1,6 @@
 -- The detector after a list of calls is what the list's history says.
 use mathlib.Core.Path.{_≡_, refl, ap}
-use mathlib.Core.Bool.{Bool, true, false, not, _&&_}
+use mathlib.Core.Bool.{Bool, true, false, cond, not, _&&_}
 use mathlib.Core.List.{List, [], _∷_}
 use Prim.Native.Nat.{ℕ, _+_}
 use native.Mathlib.Omega.{arith}
@@ -9,7 +9,7 @@ use Rattle.detector.specs.declared.Detector.{Detector}
 use Rattle.detector.specs.declared.request.Request.{Request}
 use Rattle.detector.specs.declared.request.Request.the-variants.{Off, Pr, Ric}
 use Rattle.detector.specs.declared.request.Events.{Events}
-use Rattle.detector.specs.Values.{pick, heldCount, heldTicks, elapsed}
+use Rattle.detector.specs.Values.{heldCount, heldTicks, elapsed}
 use Rattle.detector.specs.Request.{enabled, sameAs, requestedBy, Reply, ok, no, replyTo}
 use Rattle.detector.specs.Notice.{Notice, nothing, report, event, noticeAt}
 use Rattle.detector.specs.State.{fresh, changedBy, requestBy, countedOf, notified, tickOf}
@@ -54,7 +54,7 @@ module _ (on : Request) (lri : ℤ) (pulses unreported since : ℕ) where
   -- A request that is the same, another, or off.
   changed-by : (q : Request) (same enables : Bool) → (same ≡ true → q ≡ on) →
       changedBy same enables q before ≡
-      holding q (pick (not same) (negsuc 0) lri) (pick (not same && enables) 0 pulses) (pick (not same && enables) 0 unreported) since
+      holding q (cond (not same) (negsuc 0) lri) (cond (not same && enables) 0 pulses) (cond (not same && enables) 0 unreported) since
   changed-by q true enables e = rw (e refl)
   changed-by q false true e = refl
   changed-by q false false e = refl

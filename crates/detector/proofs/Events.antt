@@ -1,6 +1,6 @@
 -- Every event is of one of the three kinds, with its numbers.
 use mathlib.Core.Path.{_≡_, refl, ap}
-use mathlib.Core.Bool.{Bool, true, false}
+use mathlib.Core.Bool.{Bool, true, false, cond}
 use mathlib.Core.List.{List}
 use mathlib.Core.Logic.{inl, inr}
 use Prim.Native.Nat.{ℕ, zero, suc, _+_}
@@ -11,7 +11,6 @@ use lib.IntN.{ℤ, pos, negsuc, _-ℤ_}
 use lib.Signed.{ltZ, ltZ-yes}
 use Rattle.detector.specs.declared.request.Request.{Request}
 use Rattle.detector.specs.declared.request.Request.the-variants.{Off, Pr, Ric}
-use Rattle.detector.specs.Values.{pick}
 use Rattle.detector.specs.Notice.{nothing, event, noticeAt}
 use Rattle.detector.specs.History.{Entry, requestIn, lriIn, elapsedIn, countedIn, noticeAfter, Measurable, EventAfter, first, measured, silence}
 use Rattle.detector.proofs.Lri.{IsLri, lri-value, not-event, event-ric}
@@ -30,7 +29,7 @@ module _ (h : List Entry) (rit : ℕ) {interval count : ℕ} where
       rw (p, q) (measured m)
 
   shortened : (n : ℕ) (t : Bool) → ltZ (pos (elapsedIn h)) (pos (suc n) -ℤ pos rit) ≡ t → lriIn h ≡ pos (suc n) →
-      event interval count ≡ pick t (event (elapsedIn h) (countedIn h true)) nothing → EventAfter h rit true interval count
+      event interval count ≡ cond t (event (elapsedIn h) (countedIn h true)) nothing → EventAfter h rit true interval count
   shortened n true t l e = interval-measured (inr (rw l (ltZ-yes (rw (lt-ltb 0 (suc n) (omega arith)) tt), ltZ-yes (rw t tt)))) e
   shortened n false t l e = absurd (not-event false e)
 
@@ -40,7 +39,7 @@ module _ (h : List Entry) (rit : ℕ) {interval count : ℕ} where
   pulse-event (pos (suc n)) l z e = shortened n (ltZ (pos (elapsedIn h)) (pos (suc n) -ℤ pos rit)) refl l e
 
   silent : (n : ℕ) (t : Bool) → eqb (elapsedIn h) (suc n + rit) ≡ t → lriIn h ≡ pos (suc n) →
-      event interval count ≡ pick t (event 0 (countedIn h false)) nothing → EventAfter h rit false interval count
+      event interval count ≡ cond t (event 0 (countedIn h false)) nothing → EventAfter h rit false interval count
   silent n true t l e =
       let p : interval ≡ 0 = cc in
       let q : count ≡ countedIn h false = cc in

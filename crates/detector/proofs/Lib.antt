@@ -1,5 +1,4 @@
 -- The root of the proofs: the functions' laws first, then the claims on every list of calls.
-pub mod Pick
 pub mod Held
 pub mod Notice
 pub mod Sign

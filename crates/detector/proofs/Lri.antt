@@ -1,18 +1,17 @@
 -- lri is −1, 0 or an interval, and leaves −1 only under ric.
 use mathlib.Core.Path.{_≡_, refl}
-use mathlib.Core.Bool.{Bool, true, false, not}
+use mathlib.Core.Bool.{Bool, true, false, cond, not}
 use mathlib.Core.List.{List, [], _∷_}
 use Prim.Native.Nat.{ℕ}
 use native.Mathlib.Omega.{arith}
+use borrow.Table.Steps.{cases}
 use lib.Dec.{eqb}
 use lib.IntN.{ℤ, pos, negsuc}
 use Rattle.detector.specs.declared.request.Request.{Request}
 use Rattle.detector.specs.declared.request.Request.the-variants.{Off, Pr, Ric}
-use Rattle.detector.specs.Values.{pick}
 use Rattle.detector.specs.Request.{sameAs, requestedBy, ok, no}
 use Rattle.detector.specs.Notice.{nothing, report, event, noticeAt}
 use Rattle.detector.specs.History.{Entry, asked, ticked, audited, requestIn, lriIn, changes, RicOn}
-use Rattle.detector.proofs.Pick.{pick-ind}
 use Rattle.detector.proofs.Same.{same-equal}
 use Rattle.detector.proofs.Coupling.{AllAnswered}
 
@@ -24,7 +23,7 @@ IsLri (negsuc n) = n ≡ 0
 pub lri-value : (h : List Entry) → IsLri (lriIn h)
 unfolding lriIn
 lri-value [] = refl
-lri-value (asked events reply ∷ h) = pick-ind IsLri (changes events reply (requestIn h)) refl (lri-value h)
+lri-value (asked events reply ∷ h) = cases (changes events reply (requestIn h)) (λ e. rw e refl) (λ e. rw e (lri-value h))
 lri-value (ticked pulse nothing ∷ h) = lri-value h
 lri-value (ticked pulse report ∷ h) = lri-value h
 lri-value (ticked pulse (event interval count) ∷ h) = tt
@@ -34,7 +33,7 @@ pub lri-negative : (h : List Entry) (n : ℕ) → lriIn h ≡ negsuc n → n ≡
 lri-negative h n e = rw e at (lri-value h)
 
 -- A report and nothing are no event.
-pub not-event : {interval count : ℕ} (t : Bool) → event interval count ≡ pick t report nothing → ⊥
+pub not-event : {interval count : ℕ} (t : Bool) → event interval count ≡ cond t report nothing → ⊥
 not-event true e = let z : _≡_ {A = ℕ} 0 1 = cc in omega arith
 not-event false e = let z : _≡_ {A = ℕ} 0 1 = cc in omega arith
 
@@ -46,7 +45,7 @@ event-ric (Pr rp) false lri e pcslr h = not-event false h
 event-ric (Ric rit) pulse lri e pcslr h = tt
 
 -- The same request leaves lri as it was; another sets it to −1.
-asked-lri : (q on : Request) (lri : ℤ) (same : Bool) → (same ≡ true → q ≡ on) → (¬ RicOn on → lri ≡ negsuc 0) → ¬ RicOn q → pick (not same) (negsuc 0) lri ≡ negsuc 0
+asked-lri : (q on : Request) (lri : ℤ) (same : Bool) → (same ≡ true → q ≡ on) → (¬ RicOn on → lri ≡ negsuc 0) → ¬ RicOn q → cond (not same) (negsuc 0) lri ≡ negsuc 0
 asked-lri q on lri true e f r = f (rw (e refl) at r)
 asked-lri q on lri false e f r = refl
 

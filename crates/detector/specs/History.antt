@@ -1,6 +1,6 @@
 -- What the paper says of a list of calls, read from the calls and their answers alone. A history is held newest first.
 use mathlib.Core.Path.{_≡_}
-use mathlib.Core.Bool.{Bool, true, false, not, _&&_}
+use mathlib.Core.Bool.{Bool, true, false, cond, not, _&&_}
 use mathlib.Core.List.{List, [], _∷_}
 use mathlib.Core.Logic.{_⊎_}
 use Prim.Native.Nat.{ℕ, suc, _+_}
@@ -9,7 +9,7 @@ use lib.Signed.{_<ℤ_}
 use Rattle.detector.specs.declared.request.Request.{Request}
 use Rattle.detector.specs.declared.request.Request.the-variants.{Off, Pr, Ric}
 use Rattle.detector.specs.declared.request.Events.{Events}
-use Rattle.detector.specs.Values.{pick, heldCount, topTicks, elapsed}
+use Rattle.detector.specs.Values.{heldCount, topTicks, elapsed}
 use Rattle.detector.specs.Request.{enabled, sameAs, requestedBy, Reply, ok, no, replyTo}
 use Rattle.detector.specs.Notice.{Notice, nothing, report, event, noticeAt}
 
@@ -42,11 +42,11 @@ restarts events reply on = changes events reply on && enabled (requestedBy event
 
 -- The pulses that a tick adds: 1 where it has a pulse and the detector is enabled.
 abbrev pub pulsesAt : Request → Bool → ℕ
-pulsesAt on pulse = pick (enabled on && pulse) 1 0
+pulsesAt on pulse = cond (enabled on && pulse) 1 0
 
 -- The pulses since the last request that changed to a non-off one.
 abbrev pub pulsesAfter : Entry → Request → ℕ → ℕ
-pulsesAfter (asked events reply) on n = pick (restarts events reply on) 0 n
+pulsesAfter (asked events reply) on n = cond (restarts events reply on) 0 n
 pulsesAfter (ticked pulse notice) on n = n + pulsesAt on pulse
 pulsesAfter (audited lri cpc pcslr) on n = n
 
@@ -57,7 +57,7 @@ pulsesIn (e ∷ h) = pulsesAfter e (requestIn h) (pulsesIn h)
 
 -- The pulses since the last event or report, or since the counters were zeroed.
 abbrev pub unreportedAfter : Entry → Request → ℕ → ℕ
-unreportedAfter (asked events reply) on n = pick (restarts events reply on) 0 n
+unreportedAfter (asked events reply) on n = cond (restarts events reply on) 0 n
 unreportedAfter (ticked pulse nothing) on n = n + pulsesAt on pulse
 unreportedAfter (ticked pulse report) on n = 0
 unreportedAfter (ticked pulse (event interval count)) on n = 0
@@ -71,8 +71,8 @@ unreportedIn (e ∷ h) = unreportedAfter e (requestIn h) (unreportedIn h)
 -- The ticks since the last pulse that an enabled detector saw; ticks while it is off are not counted.
 abbrev pub sinceAfter : Entry → Request → ℕ → ℕ
 sinceAfter (asked events reply) on n = n
-sinceAfter (ticked true notice) on n = pick (enabled on) 0 n
-sinceAfter (ticked false notice) on n = pick (enabled on) (suc n) n
+sinceAfter (ticked true notice) on n = cond (enabled on) 0 n
+sinceAfter (ticked false notice) on n = cond (enabled on) (suc n) n
 sinceAfter (audited lri cpc pcslr) on n = n
 
 -- Before the first pulse, as if one lay 1,000,000,000 ticks before the list.
@@ -82,7 +82,7 @@ sinceIn (e ∷ h) = sinceAfter e (requestIn h) (sinceIn h)
 
 -- lri: the interval of the last event since the request that is on was made, −1 if there is none.
 abbrev pub lriAfter : Entry → Request → ℤ → ℤ
-lriAfter (asked events reply) on lri = pick (changes events reply on) (negsuc 0) lri
+lriAfter (asked events reply) on lri = cond (changes events reply on) (negsuc 0) lri
 lriAfter (ticked pulse nothing) on lri = lri
 lriAfter (ticked pulse report) on lri = lri
 lriAfter (ticked pulse (event interval count)) on lri = pos interval

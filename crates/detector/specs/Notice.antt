@@ -1,10 +1,9 @@
 -- What a tick gives: the rules of pr and of ric, on plain numbers.
 use Prim.Native.Nat.{ℕ, zero, suc, _+_}
-use mathlib.Core.Bool.{Bool, true, false, _&&_, _||_}
+use mathlib.Core.Bool.{Bool, true, false, cond, _&&_, _||_}
 use lib.Dec.{eqb}
 use lib.IntN.{ℤ, pos, negsuc, natAbs, _-ℤ_}
 use lib.Signed.{ltZ, leZ}
-use Rattle.detector.specs.Values.{pick}
 use Rattle.detector.specs.declared.request.Request.{Request}
 use Rattle.detector.specs.declared.request.Request.the-variants.{Off, Pr, Ric}
 use Rattle.detector.specs.declared.notification.Notification.{Notification}
@@ -24,20 +23,20 @@ noticeOf (Event interval count) = event interval count
 
 -- Under pr: if pcslr after the pulse equals rp, a report is given.
 abbrev pub prNotice : Bool → ℕ → ℕ → Notice
-prNotice true rp pcslr = pick (eqb pcslr rp) report nothing
+prNotice true rp pcslr = cond (eqb pcslr rp) report nothing
 prNotice false rp pcslr = nothing
 
 -- Under ric a pulse at lri −1 gives event (0, pcslr); at lri 0, event (e, pcslr); at lri above 0, only if e < lri − rit, event (e, pcslr).
 abbrev pub pulseNotice : (lri : ℤ) (rit e pcslr : ℕ) → Notice
 pulseNotice (negsuc n) rit e pcslr = event 0 pcslr
 pulseNotice (pos zero) rit e pcslr = event e pcslr
-pulseNotice (pos (suc n)) rit e pcslr = pick (ltZ (pos e) (pos (suc n) -ℤ pos rit)) (event e pcslr) nothing
+pulseNotice (pos (suc n)) rit e pcslr = cond (ltZ (pos e) (pos (suc n) -ℤ pos rit)) (event e pcslr) nothing
 
 -- A tick without a pulse where lri > 0 and e = lri + rit gives event (0, pcslr).
 abbrev pub silenceNotice : (lri : ℤ) (rit e pcslr : ℕ) → Notice
 silenceNotice (negsuc n) rit e pcslr = nothing
 silenceNotice (pos zero) rit e pcslr = nothing
-silenceNotice (pos (suc n)) rit e pcslr = pick (eqb e (suc n + rit)) (event 0 pcslr) nothing
+silenceNotice (pos (suc n)) rit e pcslr = cond (eqb e (suc n + rit)) (event 0 pcslr) nothing
 
 -- Under ric, with or without a pulse.
 abbrev pub ricNotice : Bool → (lri : ℤ) (rit e pcslr : ℕ) → Notice
@@ -47,11 +46,11 @@ ricNotice false = silenceNotice
 -- Whether a tick gives an event under ric: a pulse at lri −1 or 0, or where e < lri − rit; no pulse where lri > 0 and e = lri + rit.
 abbrev pub ricEvent : Bool → (lri : ℤ) (rit e : ℕ) → Bool
 ricEvent true lri rit e = leZ lri (pos 0) || ltZ (pos e) (lri -ℤ pos rit)
-ricEvent false lri rit e = pick (leZ lri (pos 0)) false (eqb e (natAbs lri + rit))
+ricEvent false lri rit e = cond (leZ lri (pos 0)) false (eqb e (natAbs lri + rit))
 
 -- Its interval: e at a pulse where lri is 0 or above, else 0.
 abbrev pub ricInterval : Bool → (lri : ℤ) (e : ℕ) → ℕ
-ricInterval pulse lri e = pick (pulse && leZ (pos 0) lri) e 0
+ricInterval pulse lri e = cond (pulse && leZ (pos 0) lri) e 0
 
 -- By the request that is on; pcslr is taken after the pulse was counted.
 abbrev pub noticeAt : Request → Bool → (lri : ℤ) (e pcslr : ℕ) → Notice

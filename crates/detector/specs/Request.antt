@@ -1,8 +1,7 @@
 -- What a detector is asked for, and the answer.
 use Prim.Native.Nat.{ℕ}
-use mathlib.Core.Bool.{Bool, true, false, _&&_, _||_}
+use mathlib.Core.Bool.{Bool, true, false, cond, _&&_, _||_}
 use lib.Dec.{ltb, eqb}
-use Rattle.detector.specs.Values.{pick}
 use Rattle.detector.specs.declared.request.Request.{Request}
 use Rattle.detector.specs.declared.request.Request.the-variants.{Off, Pr, Ric}
 use Rattle.detector.specs.declared.request.Events.{Events}
@@ -47,14 +46,14 @@ pub data Reply : Type 0 where
   no : ℕ → Reply
 
 -- The number of a refusal in the paper's table.
-abbrev pub numberOf : Refusal → ℕ
-numberOf OutOfRange = 10
-numberOf InvalidCombination = 459
+abbrev pub detectorNumber : Refusal → ℕ
+detectorNumber OutOfRange = 10
+detectorNumber InvalidCombination = 459
 
 -- The answer's meaning.
 abbrev pub replyOf : Answer → Reply
 replyOf Accepted = ok
-replyOf (Refused r) = no (numberOf r)
+replyOf (Refused r) = no (detectorNumber r)
 
 -- pr and ric together.
 abbrev pub together : Events → Bool
@@ -72,4 +71,4 @@ outOfRange (Both rp rit) = eqb rp 0 || ltb 60000 rit
 
 -- 459 comes before 10.
 abbrev pub replyTo : Events → Reply
-replyTo events = pick (together events) (no 459) (pick (outOfRange events) (no 10) ok)
+replyTo events = cond (together events) (no 459) (cond (outOfRange events) (no 10) ok)

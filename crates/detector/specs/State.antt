@@ -1,8 +1,8 @@
 -- What each call on a detector answers and leaves, for every value of it.
 use Prim.Native.Nat.{suc}
-use mathlib.Core.Bool.{Bool, true, false}
+use mathlib.Core.Bool.{Bool, true, false, cond}
 use lib.IntN.{pos, negsuc}
-use Rattle.detector.specs.Values.{pick, heldCount, topTicks, elapsed}
+use Rattle.detector.specs.Values.{heldCount, topTicks, elapsed}
 use Rattle.detector.specs.Request.{enabled, sameAs, requestedBy, Reply, ok, no, replyOf, replyTo}
 use Rattle.detector.specs.Notice.{Notice, nothing, report, event, noticeOf, noticeAt}
 use Rattle.detector.specs.declared.request.Request.{Request}
@@ -52,7 +52,7 @@ pulsed false d = record { request = d .request; lri = d .lri; cpc = d .cpc; pcsl
 
 -- While it is off, ticks change nothing.
 abbrev pub countedOf : Bool → Detector → Detector
-countedOf pulse d = pick (enabled (d .request)) (pulsed pulse d) d
+countedOf pulse d = cond (enabled (d .request)) (pulsed pulse d) d
 
 -- A report zeroes pcslr. Each event zeroes pcslr, and its interval is the new lri.
 abbrev pub notified : Detector → Notice → Detector

@@ -1,11 +1,5 @@
 -- The numbers that the paper holds: the counters and the ticks since the last pulse.
 use Prim.Native.Nat.{ℕ, suc, min}
-use mathlib.Core.Bool.{Bool, true, false}
-
--- One of two, by a test.
-abbrev pub pick : {A : Type 0} → Bool → A → A → A
-pick true a b = a
-pick false a b = b
 
 -- The counters' top.
 abbrev pub topCount : ℕ

@@ -2,7 +2,8 @@
 ghost use mathlib.Core.Path.{_≡_};
 ghost use Prim.Native.Nat.{suc, _≤_};
 ghost use lib.IntN.{pos};
-ghost use Rattle.detector.specs.Values.{pick, heldCount, topTicks, elapsed};
+ghost use mathlib.Core.Bool.{cond};
+ghost use Rattle.detector.specs.Values.{heldCount, topTicks, elapsed};
 ghost use Rattle.detector.specs.State.{fresh, changedTo, requestOf, requestedAs, tickOf, tickedAs, auditOf};
 use crate::notification::Notification;
 use crate::request::Answer;
@@ -54,7 +55,7 @@ pub struct Audited {
 
 // One pulse more where one is seen, held at the counters' top.
 fn counted_up(count: u32, seen: bool) -> u32
-    ensures { λ r. ⌜ r ≡ pick seen (heldCount (suc count)) count ⌝ }
+    ensures { λ r. ⌜ r ≡ cond seen (heldCount (suc count)) count ⌝ }
 {
     if seen & (count < TOP_COUNT) {
         count + 1
@@ -76,7 +77,7 @@ fn elapsed_now(since: u32) -> u32
 
 // The ticks since the last pulse, one tick on: none at a pulse, and as they were while the detector is off.
 fn since_after(since: u32, e: u32, enabled: bool, pulse: bool) -> u32
-    ensures { λ r. ⌜ r ≡ pick enabled (pick pulse 0 e) since ⌝ }
+    ensures { λ r. ⌜ r ≡ cond enabled (cond pulse 0 e) since ⌝ }
 {
     if enabled {
         if pulse { 0 } else { e }
@@ -87,7 +88,7 @@ fn since_after(since: u32, e: u32, enabled: bool, pulse: bool) -> u32
 
 // A count, or 0 where it is zeroed.
 fn kept(count: u32, zeroed: bool) -> u32
-    ensures { λ r. ⌜ r ≡ pick zeroed 0 count ⌝ }
+    ensures { λ r. ⌜ r ≡ cond zeroed 0 count ⌝ }
 {
     if zeroed { 0 } else { count }
 }
@@ -95,7 +96,7 @@ fn kept(count: u32, zeroed: bool) -> u32
 // lri after a tick: the interval of its event.
 fn lri_after(lri: i32, interval: u32, event: bool) -> i32
     requires { ⌜ interval ≤ topTicks ⌝ }
-    ensures { λ r. ⌜ r ≡ pick event (pos interval) lri ⌝ }
+    ensures { λ r. ⌜ r ≡ cond event (pos interval) lri ⌝ }
 {
     if event { interval as i32 } else { lri }
 }

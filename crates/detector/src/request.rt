@@ -1,7 +1,7 @@
 // What a detector is asked for: the events descriptor, the request that it makes, and the answer.
 ghost use mathlib.Core.Path.{_≡_};
-ghost use Rattle.detector.specs.Values.{pick};
-ghost use Rattle.detector.specs.Request.{sameAs, eventOf, parameterOf, requestedBy, ok, no, numberOf, replyOf, replyTo};
+ghost use mathlib.Core.Bool.{cond};
+ghost use Rattle.detector.specs.Request.{sameAs, eventOf, parameterOf, requestedBy, ok, no, detectorNumber, replyOf, replyTo};
 
 // The request that is on: no event, pr with its report period, or ric with its interval threshold.
 pub enum Request {
@@ -35,7 +35,7 @@ pub enum Answer {
 impl Refusal {
     // The number of the cause.
     pub fn number(self) -> u32
-        ensures { λ r. ⌜ r ≡ numberOf self ⌝ }
+        ensures { λ r. ⌜ r ≡ detectorNumber self ⌝ }
     {
         match self {
             Refusal::OutOfRange => 10,
@@ -87,7 +87,7 @@ pub(crate) fn asked_for(events: Events) -> Request
 
 // The answer by whether a parameter is out of range.
 fn answer_by_range(out: bool) -> Answer
-    ensures { λ r. ⌜ replyOf r ≡ pick out (no 10) ok ⌝ }
+    ensures { λ r. ⌜ replyOf r ≡ cond out (no 10) ok ⌝ }
 {
     if out {
         Answer::Refused(Refusal::OutOfRange)

@@ -1,7 +1,7 @@
 -- What each command makes of a line and answers: what the code computes.
 use mathlib.Core.Bool.{Bool, true, false, cond}
-use Prim.Native.Nat.{ℕ, zero, suc, _+_, _-_, _%_, _^_, max}
-use lib.Dec.{leb, ltb}
+use Prim.Native.Nat.{ℕ, _+_, _-_, _%_, _^_, max}
+use lib.Dec.{ltb}
 use Rattle.answers.specs.declared.Front.{Front}
 use Rattle.answers.specs.declared.Front.the-variants.{None, Tariff as TariffFront, Burst as BurstFront}
 use Rattle.answers.specs.declared.Tick.{Tick}
@@ -46,11 +46,16 @@ unfoldable pub freshLine : ℕ → ℕ → ℕ → Line
 freshLine D S clock =
     record { pulse = D; spacing = S; clock = clock; since = S; tariff = Idle; phases = noPhases; count = 0; burst = NoBurstRuns; counters = zeroCounters 0 }
 
+-- begins no pulse: 2S is above every interval that an em or a phase may have, and a burst pulse waits for S ticks
+unfoldable pub blankLine : Line
+blankLine =
+    record { pulse = 0; spacing = 4294967295; clock = 0; since = 0; tariff = Idle; phases = noPhases; count = 0; burst = NoBurstRuns; counters = zeroCounters 0 }
+
 -- where the configuration is refused, a blank line stands in the answer
 unfoldable pub makeOf : ℕ → ℕ → ℕ → Answered
 makeOf D G clock =
     cond (soundConfiguration D G) (record { line = freshLine D (D + G) clock; verdict = Accepted 0 })
-    (record { line = freshLine 0 0 0; verdict = Refused Configuration })
+    (record { line = blankLine; verdict = Refused Configuration })
 
 -- ---- descriptors and hook events
 
@@ -159,15 +164,6 @@ tickBy l t b since = tickWithFront l t b since (frontAt (t .slot) (readyOf (l .s
 -- the clock goes up; what is over ends; a slot due now, or else a burst pulse, begins
 unfoldable pub tickOf : Line → Ticked
 tickOf l = tickBy l (stepOf (l .pulse) (l .phases) (l .count) (l .tariff)) (agedOf (l .pulse) (l .burst)) (heldMore (l .spacing) (l .since))
-
--- n ticks one after the other, their answers left aside
-unfoldable pub afterTicks : ℕ → Line → Line
-afterTicks zero l = l
-afterTicks (suc n) l = tickOf (afterTicks n l) .line
-
--- up to 1,000,000 ticks at once; more are not made, and the line stays as it was
-unfoldable pub ticksOf : ℕ → Line → Line
-ticksOf n l = cond (leb n 1000000) (afterTicks n l) l
 
 -- a pulse is on: fewer than D ticks since the last front
 unfoldable pub onOf : Line → Bool

@@ -1,6 +1,6 @@
 // Making a line.
 ghost use mathlib.Core.Path.{_≡_};
-ghost use Rattle.line.specs.Lines.{freshLine, makeOf};
+ghost use Rattle.line.specs.Lines.{freshLine, blankLine, makeOf};
 use super::Answered;
 use super::Counters;
 use super::Line;
@@ -14,8 +14,8 @@ impl Line {
     fn fresh(pulse: u32, spacing: u32, clock: u32) -> Line
         ensures { λ r. ⌜ r ≡ freshLine pulse spacing clock ⌝ }
     {
-        let blank = phase_lists::no_table();
-        let phases = blank.phases;
+        let none = phase_lists::no_table();
+        let phases = none.phases;
         Line {
             pulse,
             spacing,
@@ -33,13 +33,21 @@ impl Line {
         }
     }
 
+    // The line of a refused configuration, which begins no pulse.
+    fn blank() -> Line
+        ensures { λ r. ⌜ r ≡ blankLine ⌝ }
+    {
+        let fresh = Line::fresh(0, 4294967295, 0);
+        Line { since: 0, ..fresh }
+    }
+
     // A line of this pulse length and gap; a blank line where they are refused.
     pub fn make(pulse: u32, gap: u32, clock: u32) -> Answered
         ensures { λ r. ⌜ r ≡ makeOf pulse gap clock ⌝ }
     {
         if !descriptor::sound_configuration(pulse, gap) {
             return Answered {
-                line: Line::fresh(0, 0, 0),
+                line: Line::blank(),
                 verdict: Verdict::Refused(Refusal::Configuration),
             };
         }

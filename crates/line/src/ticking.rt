@@ -1,7 +1,7 @@
 // The ticks of a line, and whether a pulse is on.
 ghost use mathlib.Core.Path.{_≡_};
 ghost use Rattle.line.specs.Rules.{frontAt};
-ghost use Rattle.line.specs.Lines.{toldBy, movedBy, tickWithPulse, tickWithFront, tickOf, ticksOf, onOf};
+ghost use Rattle.line.specs.Lines.{toldBy, movedBy, tickWithPulse, tickWithFront, tickOf, onOf};
 use super::Counters;
 use super::Line;
 use super::Ticked;
@@ -97,23 +97,6 @@ impl Line {
         let slot = t.slot;
         let ready = burst.is_ready(self.spacing, since, tariff);
         self.with_front(t, b, since, front_at(slot, ready))
-    }
-
-    // Up to 1,000,000 ticks, one after the other, their answers left aside. More are not made.
-    pub fn ticks(self, n: u32) -> Line
-        ensures { λ r. ⌜ r ≡ ticksOf n self ⌝ }
-    {
-        if n > 1000000 {
-            return self;
-        }
-        let mut line = self;
-        let mut i: u32 = 0;
-        while i < n {
-            let t = line.tick();
-            line = t.line;
-            i += 1;
-        }
-        line
     }
 
     // Whether a pulse is on.

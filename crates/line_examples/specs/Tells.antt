@@ -4,7 +4,7 @@ use lib.Dec.{eqb}
 use Prim.Native.Nat.{ℕ}
 use Rattle.answers.specs.declared.Front.{Front}
 use Rattle.answers.specs.declared.Front.the-variants.{None, Tariff, Burst}
-use Rattle.descriptor.specs.Refusals.{numberOf}
+use Rattle.descriptor.specs.Refusals.{refusalNumber}
 use Rattle.line.specs.declared.Verdict.{Verdict}
 use Rattle.line.specs.declared.Verdict.the-variants.{Accepted, Refused}
 
@@ -22,4 +22,4 @@ accepts k (Refused r) = false
 -- refused with this number
 abbrev pub refuses : ℕ → Verdict → Bool
 refuses n (Accepted k) = false
-refuses n (Refused r) = eqb (numberOf r) n
+refuses n (Refused r) = eqb (refusalNumber r) n

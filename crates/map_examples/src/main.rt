@@ -89,9 +89,16 @@ fn main() {
     print_tariff(b"6.5.4.2, 25/3 over 100", 25, 3, 100, 100);
     print_tariff(b"6.5.4.2, 1/20 over 10", 1, 20, 10, 10);
     print_tariff(b"6.5.4.2, 1/20 over 100", 1, 20, 100, 100);
+    print_map(b"6.5.4.2.1, 3 intervals of 1200 seconds", 1, 1, 0, 0, 1, 3);
+    print_text(b"  (the document prints 6000; the reciprocal of 0.00083333 is 1200)\n");
     print_tariff(b"6.5.4.3, 7/3 over 10", 7, 3, 10, 10);
     print_tariff(b"6.5.4.3, 7/3 over 7", 7, 3, 7, 7);
     print_tariff(b"6.5.4.3, 43/10 over 10", 43, 10, 10, 10);
     print_tariff(b"6.5.4.3, 43/10 over 10, 17 intervals", 43, 10, 10, 17);
+    print_tariff(b"6.5.4.4.1, window 1, 7/3 over 7", 7, 3, 7, 7);
+    print_tariff(b"6.5.4.4.1, window 2, 4/5 over 1", 4, 5, 1, 1);
+    print_text(
+        b"  (17 pulses; the scope takes 6.5.4.4.2, a short last interval charged in full)\n",
+    );
     print_tariff(b"6.5.4.4.2, 7/3 over 7, 8 intervals", 7, 3, 7, 8);
 }

@@ -68,32 +68,6 @@ fn describe_with(line: Line, tariff: TariffPart, burst: BurstPart, phases: Phase
     describe(line, tariff, burst, &lists, phases.taken)
 }
 
-// What a command that the line answers does to it.
-fn change(line: Line, command: Command, phases: Phases) -> Answered {
-    match command {
-        Command::Configure { pulse, gap, clock } => configure(line, pulse, gap, clock),
-        Command::Period(rp) => line.set_period(rp),
-        Command::Describe {
-            tariff,
-            phases: _,
-            burst,
-        } => describe_with(line, tariff, burst, phases),
-        Command::OnHook(event) => line.hook(event),
-        _ => line.clear_period(),
-    }
-}
-
-// The line that a command handed back, and its answer put.
-fn answered(made: bool, answer: Answered, out: &mut [u8], held: usize) -> Gateway {
-    let line = answer.line;
-    let verdict = answer.verdict;
-    Gateway {
-        made: is_made(made, verdict),
-        line,
-        held: output::put_answer(out, held, answer_of(verdict)),
-    }
-}
-
 // Ticks a line n times, which is made then, and puts what each tick tells.
 fn run(line: Line, n: u32, out: &mut [u8], held: usize) -> Gateway {
     let mut now = line;
@@ -134,13 +108,34 @@ impl Gateway {
         }
     }
 
+    // With the line that a command handed back, and its answer put.
+    fn answered(self, answer: Answered, out: &mut [u8]) -> Gateway {
+        let line = answer.line;
+        let verdict = answer.verdict;
+        Gateway {
+            made: is_made(self.made, verdict),
+            line,
+            held: output::put_answer(out, self.held, answer_of(verdict)),
+        }
+    }
+
     // Does what a command asks for, a descriptor with the phases that were read.
     pub(crate) fn obey(self, command: Command, phases: Phases, out: &mut [u8]) -> Gateway {
         let line = self.line;
         match command {
             Command::Bad => self.refused(out),
+            Command::Configure { pulse, gap, clock } => {
+                self.answered(configure(line, pulse, gap, clock), out)
+            }
+            Command::Period(rp) => self.answered(line.set_period(rp), out),
+            Command::NoPeriod => self.answered(line.clear_period(), out),
+            Command::Describe {
+                tariff,
+                phases: _,
+                burst,
+            } => self.answered(describe_with(line, tariff, burst, phases), out),
+            Command::OnHook(event) => self.answered(line.hook(event), out),
             Command::Run(ticks) => run(line, ticks, out, self.held),
-            _ => answered(self.made, change(line, command, phases), out, self.held),
         }
     }
 

@@ -1,6 +1,6 @@
 -- The definitions that the contracts cite, lowest first.
 pub mod Rounding
-pub mod Tariff
+pub mod Components
 pub mod Map
 pub mod Words
 pub mod Pulses

@@ -2,7 +2,7 @@
 use mathlib.Core.Bool.{Bool, _||_}
 use Prim.Native.Nat.{ℕ, _+_}
 use lib.Dec.{ltb, eqb}
-use Rattle.pulse_map.specs.Tariff.{pcxOf}
+use Rattle.pulse_map.specs.Components.{pcxOf}
 
 -- n outside low to high
 abbrev pub outside : ℕ → ℕ → ℕ → Bool

@@ -1,14 +1,14 @@
 // Pulse maps of H.248.26, 6.5.4: the parameters of a tariff, and the elements, X's and pulses of a map.
+mod fractions;
 mod interleaving;
 mod map;
 mod pulses;
 mod tables;
-mod tariff;
 
+pub use fractions::parameters_of;
 pub use map::element_at;
 pub use map::xs_in_prefix;
 pub use pulses::pulses_in;
-pub use tariff::parameters_of;
 
 // The parameters of a tariff, or refusal 9.
 pub enum Parameters {

@@ -111,5 +111,5 @@ phase = do
   give (Numbers (record { pri = pri; pcx = pcx; repx = repx; pcn = pcn; repn = repn; ci = ci; pd = pd }))
 
 -- the phase of a line: seven numbers, or bad
-abbrev pub phaseOf : List ℕ → PhaseLine
-phaseOf l = whole BadLine (phase (wordsOf l))
+abbrev pub phaseLineOf : List ℕ → PhaseLine
+phaseLineOf l = whole BadLine (phase (wordsOf l))

@@ -1,6 +1,6 @@
 // The line of a phase: `pri pcx repx pcn repn ci pd`.
 ghost use mathlib.Core.Path.{_≡_};
-ghost use Rattle.script.specs.Commands.{phaseOf};
+ghost use Rattle.script.specs.Commands.{phaseLineOf};
 use super::PhaseLine;
 use super::numbers::next_number;
 use super::words::ended;
@@ -8,7 +8,7 @@ use tariff::Phase;
 
 // Reads the line of a phase: seven numbers, and nothing else.
 pub fn read_phase(line: &[u8]) -> PhaseLine
-    ensures { λ r. ⌜ r ≡ phaseOf (now (line .entry)) ⌝ }
+    ensures { λ r. ⌜ r ≡ phaseLineOf (now (line .entry)) ⌝ }
 {
     let pri = next_number(line, 0);
     let pcx = next_number(line, pri.at);

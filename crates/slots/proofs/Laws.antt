@@ -16,7 +16,7 @@ use Rattle.tariff.specs.declared.Slot.{Slot}
 use Rattle.tariff.specs.declared.Slot.the-variants.{None, Empty, Pulse}
 use Rattle.tariff.specs.declared.Tariff.the-variants.{Endless, Counted}
 use Rattle.slots.specs.Slots.{endlessSlot, countedSlot, phasedSlot}
-use Rattle.slots.specs.Running.{Running, nothing, endless, counted, phased, slotAt, NextSlot, isNone, quietFor}
+use Rattle.slots.specs.Running.{Running, nothing, endless, counted, phased, slotAt, NextSlot, noSlot, quietFor}
 use Rattle.slots.proofs.Order.{by-order, by-equal}
 use Rattle.slots.proofs.Ahead.{slotsOf}
 use Rattle.slots.proofs.Counted.{counted-start}
@@ -52,12 +52,12 @@ slots-apart S r t u spaced (phases f ps some eight ok) first second l =
     (phased-start-good S ps n 1 spaced some eight whole (rw (take-length ps) ok) (omega arith))
     (λ x. sym (past-due ps n (phasedOf ps 1) x (next-phased ps 1)) ∙ rw (take-length ps) at (start x)) f t u first second l
 
-none-of : (s : Slot) → isNone s ≡ true → s ≡ None
+none-of : (s : Slot) → noSlot s ≡ true → s ≡ None
 none-of None e = refl
 none-of Empty e = absurd (false≢true e)
 none-of Pulse e = absurd (false≢true e)
 
-some-of : (s : Slot) → isNone s ≡ false → s ≢ None
+some-of : (s : Slot) → noSlot s ≡ false → s ≢ None
 some-of s e n = false≢true (sym e ∙ rw n)
 
 -- there is at most one next slot
@@ -68,13 +68,13 @@ pub next-unique : (r : Running) (t u v : ℕ) → NextSlot r t u → NextSlot r 
 next-unique r t u v next other = omega (arith, next-first r t u v next other, next-first r t v u other next)
 
 -- a tick on, the next slot is the same unless that tick has it
-next-before : (r : Running) (t u : ℕ) → isNone (slotAt r (t + 1)) ≡ true → NextSlot r (t + 1) u → NextSlot r t u
+next-before : (r : Running) (t u : ℕ) → noSlot (slotAt r (t + 1)) ≡ true → NextSlot r (t + 1) u → NextSlot r t u
 next-before r t u none next = record { later = omega (arith, next .later); slot = next .slot; least = least }
   where
     least : (v : ℕ) → t < v → v < u → slotAt r v ≡ None
     least v l m = by-equal v (t + 1) (λ e. rw e (none-of (slotAt r (t + 1)) none)) (λ e. next .least v (omega arith) m)
 
-next-now : (r : Running) (t : ℕ) → isNone (slotAt r (t + 1)) ≡ false → NextSlot r t (t + 1)
+next-now : (r : Running) (t : ℕ) → noSlot (slotAt r (t + 1)) ≡ false → NextSlot r t (t + 1)
 next-now r t some = record { later = omega arith; slot = some-of (slotAt r (t + 1)) some; least = λ v l m. absurd (omega arith) }
 
 -- each of the n ticks has no slot
@@ -82,7 +82,7 @@ quiet-each : (r : Running) (n t u : ℕ) → quietFor r t n ≡ true → t < u �
 unfolding quietFor
 quiet-each r zero t u q l m = absurd (omega arith)
 quiet-each r (suc n) t u q l m =
-    let both = and-eq-true-iff (isNone (slotAt r (t + 1))) (quietFor r (t + 1) n) .0 q in
+    let both = and-eq-true-iff (noSlot (slotAt r (t + 1))) (quietFor r (t + 1) n) .0 q in
     by-equal u (t + 1)
     (λ e. rw e (none-of (slotAt r (t + 1)) (both .0)))
     (λ e. quiet-each r n (t + 1) u (both .1) (omega arith) (omega arith))
@@ -95,7 +95,7 @@ quiet-before : (r : Running) (n t : ℕ) → ((u : ℕ) → NextSlot r t u → t
 unfolding quietFor
 quiet-before r zero t far = refl
 quiet-before r (suc n) t far =
-    cases (isNone (slotAt r (t + 1)))
+    cases (noSlot (slotAt r (t + 1)))
     (λ b. rw (b, quiet-before r n (t + 1) (λ u next. omega (arith, far u (next-before r t u b next)))))
     (λ b. absurd (omega (arith, far (t + 1) (next-now r t b))))
 

@@ -12,7 +12,7 @@ use Rattle.tariff.specs.declared.Phase.{Phase}
 use Rattle.tariff.specs.declared.Slot.the-variants.{None}
 use Rattle.tariff.specs.declared.Tariff.{Tariff}
 use Rattle.tariff.specs.declared.Tariff.the-variants.{Idle, Endless, Counted, Phased, Ending}
-use Rattle.slots.specs.Running.{Running, slotAt, NextSlot, isNone, quietFor}
+use Rattle.slots.specs.Running.{Running, slotAt, NextSlot, noSlot, quietFor}
 use Rattle.slots.proofs.Order.{by-order, by-equal}
 use Rattle.slots.proofs.From.{from-past, from-before}
 use Rattle.slots.proofs.Ahead.{Good, nextOf, slotsOf, ahead}
@@ -32,7 +32,7 @@ room-next S a n (Phased i e l j w) g = rw (ne-eqb w 0 (λ z. omega (arith, g .wa
 room-next S a n (Ending w) g = refl
 
 -- where a slot is left, it waits for one
-some-due : (a : List Phase) (t : Tariff) → 1 ≤ nextOf t → isNone (dueSlot a t) ≡ false
+some-due : (a : List Phase) (t : Tariff) → 1 ≤ nextOf t → noSlot (dueSlot a t) ≡ false
 some-due a Idle l = absurd (omega arith)
 some-due a (Endless P w) l = refl
 some-due a (Counted C P k w) l = refl
@@ -50,7 +50,7 @@ module _ (S D : ℕ) (a : List Phase) (n : ℕ) (r : Running) (t : Tariff) (i : 
   next-least some =
       record {
         later = omega arith;
-        slot = λ none. false≢true (sym (some-due a t some) ∙ ap isNone (sym due ∙ none));
+        slot = λ none. false≢true (sym (some-due a t some) ∙ ap noSlot (sym due ∙ none));
         least = λ v l m. at-tick v l ∙ from-before (slotsOf a n t) (nextOf t) (v - i) (omega arith);
       }
     where

@@ -45,15 +45,15 @@ pub record NextSlot (r : Running) (t u : ℕ) : Type 0 where
   pub slot : slotAt r u ≡ None → ⊥
   pub least : (v : ℕ) → t < v → v < u → slotAt r v ≡ None
 
-abbrev pub isNone : Slot → Bool
-isNone None = true
-isNone Empty = false
-isNone Pulse = false
+abbrev pub noSlot : Slot → Bool
+noSlot None = true
+noSlot Empty = false
+noSlot Pulse = false
 
 -- the n ticks after tick t have no slot
 unfoldable pub quietFor : Running → ℕ → ℕ → Bool
 quietFor r t zero = true
-quietFor r t (suc n) = isNone (slotAt r (t + 1)) && quietFor r (t + 1) n
+quietFor r t (suc n) = noSlot (slotAt r (t + 1)) && quietFor r (t + 1) n
 
 -- a tariff completes at tick t: D ticks after slot C − 1 of an em with C > 0, or at the end of the last phase
 unfoldable pub completesAt : ℕ → Running → ℕ → Bool

@@ -6,7 +6,7 @@ use lib.Dec.{leb, ltb, eqb}
 use lib.ListN.{getD}
 use Rattle.pulse_map.specs.Pulses.{pulsesOf}
 use Rattle.pulse_map.specs.Map.{Entry}
-use Rattle.pulse_map.specs.Answers.{Answer, refused, given, elementAnswer}
+use Rattle.pulse_map.specs.Answers.{Result, refused, given, elementAnswer}
 use Rattle.tariff.specs.declared.Phase.{Phase}
 use Rattle.tariff.specs.declared.Slot.{Slot}
 use Rattle.tariff.specs.declared.Slot.the-variants.{None, Empty, Pulse}
@@ -23,7 +23,7 @@ abbrev pub phaseAt : List Phase → ℕ → Phase
 phaseAt ps i = cond (ltb i 8) (getD ps i noPhase) noPhase
 
 -- the pulses of a charge interval with map entry e; none where the map has no such entry
-abbrev pub pulsesBy : ℕ → ℕ → Answer Entry → ℕ
+abbrev pub pulsesBy : ℕ → ℕ → Result Entry → ℕ
 pulsesBy pcx pcn (refused number) = 0
 pulsesBy pcx pcn (given entry) = pulsesOf pcx pcn entry
 

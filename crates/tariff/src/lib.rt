@@ -1,9 +1,9 @@
 // The tariffs of a line: the phases of a phased tariff, and where a running tariff stands.
 mod after;
-mod descriptor;
 mod numbers;
 mod phases;
 mod rules;
+mod setting;
 mod steps;
 
 pub use rules::sound_em;

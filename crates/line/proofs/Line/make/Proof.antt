@@ -24,12 +24,12 @@ spacing-small D G h =
 sound-configuration-requires : tie.Need-sound-configuration-requires
 sound-configuration-requires c κs = search needs
 
-fresh-requires : tie.Need-fresh-requires
-fresh-requires c κs = search needs
+blank-requires : tie.Need-blank-requires
+blank-requires c κs = search needs
 
 returns : tie.Need-returns
 unfolding makeOf
-returns c = rw (fails (c .before .before .sound-configuration .ensures) (c .before .if1 .taken), c .fresh .ensures)
+returns c = rw (fails (c .before .before .sound-configuration .ensures) (c .before .if1 .taken), c .blank .ensures)
 
 add-fresh : tie.Need-add-fresh
 add-fresh c =
@@ -37,20 +37,20 @@ add-fresh c =
     let short = spacing-small (a .pulse) (a .gap) (holds (c .before .sound-configuration .ensures) (c .if1 .left)) in
     search needs
 
-fresh-requires-2 : tie.Need-fresh-requires-2
-fresh-requires-2 c κs = search needs
+fresh-requires : tie.Need-fresh-requires
+fresh-requires c κs = search needs
 
 returns-2 : tie.Need-returns-2
 unfolding makeOf
-returns-2 c = rw (holds (c .before .before .sound-configuration .ensures) (c .before .if1 .left), c .fresh2 .ensures)
+returns-2 c = rw (holds (c .before .before .sound-configuration .ensures) (c .before .if1 .left), c .fresh .ensures)
 
 pub make-spec : {M : Type 1} → statement M
 make-spec =
     tie.close
     (tie.spec
     sound-configuration-requires
-    fresh-requires
+    blank-requires
     returns
     add-fresh
-    fresh-requires-2
+    fresh-requires
     returns-2)

@@ -2,8 +2,8 @@
 use borrow.Author.Needs.{needs}
 use native.Mathlib.Omega.{arith}
 use Rattle.pulse_map.proofs.Components.{share-top}
-use Rattle.pulse_map.proofs.tariff.repx_of.Statement.{statement}
-use Rattle.pulse_map.proofs.tariff.repx_of.Tie as tie
+use Rattle.pulse_map.proofs.fractions.repx_of.Statement.{statement}
+use Rattle.pulse_map.proofs.fractions.repx_of.Tie as tie
 
 rem-result : tie.Need-rem-result
 rem-result c = search needs

@@ -1,7 +1,7 @@
 // A tariff of a/b pulses per charge interval over n elements.
 ghost use mathlib.Core.Path.{_≡_};
 ghost use Prim.Native.Nat.{_<_, _≤_};
-ghost use Rattle.pulse_map.specs.Tariff.{repxOf};
+ghost use Rattle.pulse_map.specs.Components.{repxOf};
 ghost use Rattle.pulse_map.specs.Answers.{parametersAnswer};
 ghost use Rattle.pulse_map.specs.Told.{parametersTold};
 use super::Parameters;
