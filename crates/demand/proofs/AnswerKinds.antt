@@ -1,19 +1,28 @@
 -- The three kinds of answer that the paper gives: to a command, to an audit and to a tick.
-use mathlib.Core.Path.{_≡_, refl}
+use mathlib.Core.Path.{_≡_, refl, sym, ap}
 use mathlib.Core.Bool.{false}
-use mathlib.Core.List.{List, []}
+use mathlib.Core.List.{List}
 use Prim.Native.Nat.{ℕ, _+_}
 use Rattle.line.specs.Rules.{cancelledBy}
-use Rattle.demand.specs.Names.{KeepTariff, KeepBurst, KeepHook, Stop, Ruling}
-use Rattle.demand.specs.Calls.{Call, describe, hook, period, noPeriod, audit, tick, Answer, counters, ticked, Entry, asksParts, asksTick, asks}
-use Rattle.demand.specs.History.{ticks, owed, total, sinceReport}
-use Rattle.demand.specs.Answers.{ruledAnswer, rulingAfter, tickAfter, answerAfter}
+use Rattle.descriptor.specs.Refusals.{refusalNumber}
+use Rattle.demand.specs.Names.{KeepHook, Stop, Ruling, Allowed, TurnedDown}
+use Rattle.demand.specs.Calls.{Call, describe, hook, period, noPeriod, audit, tick, Answer, accepted, refused, counters, ticked, Entry, asks}
+use Rattle.demand.specs.History.{ticks, owed, sinceReport}
+use Rattle.demand.specs.Answers.{rulingAfter, commandAnswer, tickAfter, answerAfter}
+use Rattle.demand.proofs.Counters.{total}
+
+-- the burst pulses cancelled, or the number of the refusal
+abbrev pub ruledAnswer : Ruling → ℕ → Answer
+ruledAnswer u k = elim u [ Allowed ↦ accepted k | TurnedDown r ↦ refused (refusalNumber r) ]
 
 module _ (D S : ℕ) (h : List Entry) where
+  pub ruled : (c : Call) {u : Ruling} → rulingAfter D S h c ≡ u → ruledAnswer u (cancelledBy (asks c .burst) (owed h)) ≡ commandAnswer D S h c
+  ruled c e = ap (λ (u : Ruling). ruledAnswer u (cancelledBy (asks c .burst) (owed h))) (sym e)
+
   pub data Kind (c : Call) : Answer → Type 0 where
     to-command : (u : Ruling) → rulingAfter D S h c ≡ u → asks c .tick ≡ false → Kind c (ruledAnswer u (cancelledBy (asks c .burst) (owed h)))
-    to-audit : asks c ≡ asksParts KeepTariff [] KeepBurst → Kind c (counters (total h) (sinceReport h))
-    to-tick : asks c ≡ asksTick → Kind c (ticked (tickAfter D S h (ticks h + 1)))
+    to-audit : asks c ≡ asks audit → Kind c (counters (total h) (sinceReport h))
+    to-tick : asks c ≡ asks tick → Kind c (ticked (tickAfter D S h (ticks h + 1)))
 
   kind-after : (c : Call) → Kind c (answerAfter D S h c)
   unfolding answerAfter

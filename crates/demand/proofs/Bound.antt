@@ -17,12 +17,12 @@ use Rattle.line.specs.declared.Line.{Line}
 use Rattle.demand.specs.Calls.{Call, Answer, Entry}
 use Rattle.demand.specs.History.{granted, frontOf, sum, ticks, begun, burstIn, Started, started, never}
 use Rattle.demand.specs.Machine.{entryOf, outcome, step}
-use Rattle.demand.specs.Demand.{isFresh, isNone, beforeLast, freshBefore, cancelsBefore, deadline, LastBegins}
+use Rattle.demand.specs.Demand.{isFresh, beforeLast, freshBefore, cancelsBefore, deadline, LastBegins}
 use Rattle.slots.proofs.Ahead.{nextOf}
 use Rattle.demand.proofs.Counts.{ticks-most}
 use Rattle.demand.proofs.Coupled.{Config, BurstAt, runs, line-at, Coupled}
 use Rattle.demand.proofs.Potential.{Within, late, positive, replaced, stopped, pulse-slot, empty-slot, waits}
-use Rattle.demand.proofs.Effects.{Effect, cancels, stays, stops, begins, waiting, empty-due, pulse-due, burst-due, effect}
+use Rattle.demand.proofs.Effects.{isNone, Effect, cancels, stays, stops, begins, waiting, empty-due, pulse-due, burst-due, effect}
 use Rattle.demand.proofs.Run.{Run, more, coupled, cut}
 
 -- after j ticks and r fresh tariffs, with done of n pulses begun: the next begins within `first` ticks, and a pulse after

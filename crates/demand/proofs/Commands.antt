@@ -9,7 +9,7 @@ use Rattle.answers.specs.declared.Front.the-variants.{None}
 use Rattle.tariff.specs.Rules.{soundEm, soundPhases}
 use Rattle.tariff.specs.Steps.{emOf, phasedOf, rateOf}
 use Rattle.tariff.specs.declared.Phase.{Phase}
-use Rattle.slots.specs.Running.{Running, runsEndless}
+use Rattle.slots.specs.Slots.{Running, runsEndless}
 use Rattle.phase_lists.specs.Tables.{eightOf, tableWith}
 use Rattle.descriptor.specs.declared.TariffPart.{TariffPart}
 use Rattle.descriptor.specs.declared.TariffPart.the-variants.{None as NoTariff, Keep as KeepTariff, Rate, Em, Phased}

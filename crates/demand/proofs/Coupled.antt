@@ -5,15 +5,16 @@ use mathlib.Core.List.{List}
 use Prim.Native.Nat.{ℕ, _+_, _%_, _^_, max, _≤_, _<_}
 use Rattle.tariff.specs.declared.Phase.{Phase}
 use Rattle.tariff.specs.declared.Tariff.{Tariff}
-use Rattle.slots.specs.Running.{Running}
+use Rattle.slots.specs.Slots.{Running}
 use Rattle.burst.specs.declared.Burst.{Burst}
 use Rattle.burst.specs.declared.Burst.the-variants.{Idle, Running as Owing}
 use Rattle.line.specs.declared.Line.{Line}
 use Rattle.demand.specs.Calls.{Entry}
-use Rattle.demand.specs.History.{Last, at, Started, idle, started, pulseOn, ticks, lastFront, burstIn, running, total, sinceReport, periodIn}
+use Rattle.demand.specs.History.{Last, at, Started, idle, started, pulseOn, ticks, lastFront, burstIn, running, sinceReport, periodIn}
 use Rattle.slots.proofs.Ahead.{nextOf, Good}
 use Rattle.slots.proofs.Agree.{Agree}
 use Rattle.demand.proofs.Held.{heldSince, Before}
+use Rattle.demand.proofs.Counters.{total}
 
 -- what an accepted configuration says of the pulse length D and the spacing S
 pub record Config (D S : ℕ) : Type 0 where

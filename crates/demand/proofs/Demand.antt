@@ -14,7 +14,7 @@ use Rattle.answers.specs.declared.Tick.{Tick}
 use Rattle.tariff.specs.Rules.{within}
 use Rattle.tariff.specs.declared.Slot.{Slot}
 use Rattle.tariff.specs.declared.Slot.the-variants.{None as NoSlot, Empty, Pulse}
-use Rattle.slots.specs.Running.{slotAt}
+use Rattle.slots.specs.Slots.{slotAt}
 use Rattle.descriptor.specs.Refusals.{ruling, soundConfiguration}
 use Rattle.descriptor.specs.declared.Ruling.the-variants.{Allowed, TurnedDown}
 use Rattle.descriptor.specs.declared.TariffPart.{TariffPart}
@@ -24,34 +24,16 @@ use Rattle.line.specs.Rules.{frontAt}
 use Rattle.line.specs.Lines.{freshLine, makeOf, onOf}
 use Rattle.line.specs.declared.Line.{Line}
 use Rattle.demand.specs.Calls.{Call, hook, audit, Answer, accepted, counters, ticked, Entry, asks}
-use Rattle.demand.specs.History.{unlessRefused, granted, told, frontOf, ticks, running, owed, total, sinceReport, countBy, zeroedBy}
+use Rattle.demand.specs.History.{unlessRefused, granted, told, frontOf, ticks, running, owed, frontsSinceEm, sinceReport}
 use Rattle.demand.specs.Answers.{answerAfter}
 use Rattle.demand.specs.Machine.{entryOf, Outcome, outcome, step, Past, past, noted, afterCall, afterCalls, entries, lineAfter, history}
-use Rattle.demand.specs.Demand.{frontsSinceEm, EndAnswers, Follows, Demand3}
+use Rattle.demand.specs.Demand.{EndAnswers, Follows, Demand3}
 use Rattle.demand.proofs.Coupled.{Config}
 use Rattle.demand.proofs.AnswerKinds.{Kind, to-command, to-audit, to-tick, kind}
 use Rattle.demand.proofs.Run.{Run, coupled, answer-right, step-right, Right, clock-agrees, on-agrees, reads, run-history, cut}
 use Rattle.demand.proofs.Sum.{sum-run}
 use Rattle.demand.proofs.Bound.{bound}
 use Rattle.demand.proofs.Spacing.{spacing-run}
-
--- ---- the total counter
-counted-held : (f : Front) (n : ℕ) → countBy f (min 4294967295 n) ≡ min 4294967295 (isFront f + n)
-counted-held None n = omega arith
-counted-held TariffFront n = omega arith
-counted-held BurstFront n = omega arith
-
-zeroed-held : (t : TariffPart) (n : ℕ) → zeroedBy t (min 4294967295 n) ≡ min 4294967295 (zeroedBy t n)
-zeroed-held NoTariff n = refl
-zeroed-held KeepTariff n = refl
-zeroed-held (Rate P) n = refl
-zeroed-held (Em C P) n = omega arith
-zeroed-held Phased n = refl
-
-total-is : (h : List Entry) → total h ≡ min 4294967295 (frontsSinceEm h)
-unfolding total frontsSinceEm
-total-is [] = omega arith
-total-is (e ∷ h) = rw (total-is h, counted-held (frontOf e) (frontsSinceEm h)) (zeroed-held (granted e .tariff) (isFront (frontOf e) + frontsSinceEm h))
 
 -- ---- slots
 tariff-front : (s : Slot) (may : Bool) → (frontAt s may ≡ TariffFront) ↔ (s ≡ Pulse)
@@ -120,7 +102,7 @@ module _ (D G clock : ℕ) (sound : soundConfiguration D G ≡ true) (small : cl
 
   audit-answers : EndAnswers D G clock cs audit (counters (min 4294967295 (frontsSinceEm (history D G clock cs))) (sinceReport (history D G clock cs)))
   unfolding answerAfter
-  audit-answers = rw (← total-is (history D G clock cs)) (end-answers audit)
+  audit-answers = end-answers audit
 
   follows-run : (before : List Entry) (e : Entry) {l : Line} → Run D S clock cfg (e ∷ before) l → Follows D G clock cs e before
   follows-run before e r =

@@ -29,7 +29,7 @@ use Rattle.line.specs.declared.Ticked.{Ticked}
 use Rattle.demand.specs.Calls.{Call, describe, hook, period, noPeriod, audit, tick, ticked, Entry, asks}
 use Rattle.demand.specs.History.{granted, frontOf}
 use Rattle.demand.specs.Machine.{rulingOf, entryOf, Outcome, outcome, answered, step}
-use Rattle.demand.specs.Demand.{isFresh, isNone}
+use Rattle.demand.specs.Demand.{isFresh}
 use Rattle.slots.proofs.Ahead.{nextOf, Waits, Good}
 use Rattle.slots.proofs.Agree.{Next, waits, empty, pulse}
 use Rattle.slots.proofs.Tick.{good-step, next-step}
@@ -38,6 +38,10 @@ use Rattle.slots.proofs.Room.{room-next}
 use Rattle.demand.proofs.Coupled.{Config}
 use Rattle.demand.proofs.Taken.{starts-idle}
 use Rattle.demand.proofs.Potential.{Blocked, slot-near, front-near, own-near}
+
+-- a burst part none
+abbrev pub isNone : BurstPart → ℕ
+isNone b = elim b [ NoBurst ↦ 1 | KeepBurst ↦ 0 | Start n P ↦ 0 ]
 
 -- the entry is of a tick, or of another call
 abbrev pub IsTick : Entry → Type 0

@@ -1,16 +1,17 @@
 -- The files of this folder, lowest first.
 pub mod Held
 pub mod Counts
+pub mod Counters
 pub mod Coupled
 pub mod Commands
 pub mod Bursts
 pub mod Ticks
 pub mod Taken
+pub mod AnswerKinds
 pub mod Run
 pub mod Potential
 pub mod Effects
 pub mod Bound
-pub mod AnswerKinds
 pub mod Sum
 pub mod Spacing
 pub mod Demand

@@ -1,11 +1,11 @@
 -- A history with the line after it, call by call, and the coupling at each.
-use mathlib.Core.Path.{_≡_, refl, ap}
+use mathlib.Core.Path.{_≡_, refl, ap, _∙_}
 use mathlib.Core.Bool.{Bool, true}
 use mathlib.Core.List.{List, [], _∷_, _++_}
 use Prim.Native.Nat.{ℕ, _+_, _%_, _^_, _<_}
 use native.Mathlib.Omega.{arith}
 use Rattle.tariff.specs.declared.Tariff.the-variants.{Idle}
-use Rattle.slots.specs.Running.{nothing, runsEndless}
+use Rattle.slots.specs.Slots.{nothing, runsEndless}
 use Rattle.phase_lists.specs.Lists.{Lists, phasesOf}
 use Rattle.phase_lists.specs.Tables.{tableWith, noPhases}
 use Rattle.descriptor.specs.Refusals.{ruling}
@@ -19,20 +19,22 @@ use Rattle.descriptor.specs.declared.Hook.the-variants.{Keep, Stop}
 use Rattle.burst.specs.Bursts.{owedBy}
 use Rattle.burst.specs.declared.Burst.the-variants.{Idle as NoBurstRuns}
 use Rattle.line.specs.Rules.{cancelledBy}
-use Rattle.line.specs.Lines.{freshLine, describeOf, hookOf, periodOf, noPeriodOf, auditOf, onOf, answeredBy, tariffChanged, burstChanged, withPeriod, zeroCounters}
+use Rattle.line.specs.Lines.{freshLine, describeOf, hookOf, periodOf, noPeriodOf, auditOf, tickOf, onOf, answeredBy, tariffChanged, burstChanged, withPeriod, zeroCounters}
 use Rattle.line.specs.declared.Line.{Line}
 use Rattle.demand.specs.Calls.{Call, describe, hook, period, noPeriod, audit, tick, Answer, accepted, counters, ticked, Entry}
-use Rattle.demand.specs.History.{ticks, lastFront, burstIn, owed, burstRuns, running, total, sinceReport, periodIn, pulseOn, never, idle}
+use Rattle.demand.specs.History.{ticks, lastFront, burstIn, owed, burstRuns, running, frontsSinceEm, sinceReport, periodIn, pulseOn, never, idle}
 use Rattle.demand.specs.Answers.{rulingAfter, answerAfter}
 use Rattle.demand.specs.Machine.{rulingOf, entryOf, Outcome, outcome, answered, step, Past, past, noted, afterCalls, entries, lineAfter}
 use Rattle.slots.proofs.Fresh.{agree-idle}
 use Rattle.slots.proofs.Rate.{rate-runs}
 use Rattle.demand.proofs.Held.{held-on}
+use Rattle.demand.proofs.Counters.{total, counted-held, zeroed-held}
 use Rattle.demand.proofs.Coupled.{Config, At, line-at, Coupled, none}
 use Rattle.demand.proofs.Bursts.{owed-is, runs-is}
 use Rattle.demand.proofs.Commands.{tariff-at, burst-at, period-at}
 use Rattle.demand.proofs.Taken.{taken}
 use Rattle.demand.proofs.Ticks.{tick-at}
+use Rattle.demand.proofs.AnswerKinds.{ruled}
 
 module _ (D S clock : ℕ) (cfg : Config D S) where
   -- what is read off a coupled line
@@ -61,26 +63,26 @@ module _ (D S clock : ℕ) (cfg : Config D S) where
   module _ (h : List Entry) {l : Line} (x : Coupled D S clock h l) where
     describe-right : (t : TariffPart) (ls : Lists) (b : BurstPart) (u : Ruling) → rulingAfter D S h (describe t ls b) ≡ u →
         Right h (describe t ls b) (answered (answeredBy u l (burstChanged b (tariffChanged t (tableWith (phasesOf ls)) l)) (cancelledBy b (owedBy (l .burst)))))
-    unfolding answerAfter ticks lastFront burstIn running total sinceReport periodIn
+    unfolding answerAfter ticks lastFront burstIn running frontsSinceEm sinceReport periodIn
     describe-right t ls b Allowed e =
         let both = taken S (runsEndless (running D S h)) (burstRuns D (burstIn h) (ticks h)) t ls b (running D S h) refl e in
-        (rw (e, owed-agrees h x), burst-at D S clock cfg (burstRuns D (burstIn h) (ticks h)) b (both .1) (tariff-at D S clock cfg t (phasesOf ls) (both .0) x))
-    describe-right t ls b (TurnedDown r) e = (rw e, x)
+        (ap (λ (n : ℕ). accepted (cancelledBy b n)) (owed-agrees h x) ∙ ruled D S h (describe t ls b) e, rw (← zeroed-held t (frontsSinceEm h)) (burst-at D S clock cfg (burstRuns D (burstIn h) (ticks h)) b (both .1) (tariff-at D S clock cfg t (phasesOf ls) (both .0) x)))
+    describe-right t ls b (TurnedDown r) e = (ruled D S h (describe t ls b) e, x)
 
     period-right : (n : ℕ) (u : Ruling) → rulingAfter D S h (period n) ≡ u → Right h (period n) (answered (answeredBy u l (withPeriod l n) 0))
-    unfolding answerAfter ticks lastFront burstIn running total sinceReport periodIn
-    period-right n Allowed e = (rw e, period-at D S clock cfg n x)
-    period-right n (TurnedDown r) e = (rw e, x)
+    unfolding answerAfter ticks lastFront burstIn running frontsSinceEm sinceReport periodIn
+    period-right n Allowed e = (ruled D S h (period n) e, period-at D S clock cfg n x)
+    period-right n (TurnedDown r) e = (ruled D S h (period n) e, x)
 
     pub step-right : (c : Call) → Right h c (step l c)
-    unfolding step describeOf hookOf periodOf noPeriodOf auditOf answerAfter ruling ticks lastFront burstIn running total sinceReport periodIn tariffChanged burstChanged
+    unfolding step describeOf hookOf periodOf noPeriodOf auditOf answerAfter ruling ticks lastFront burstIn running frontsSinceEm sinceReport periodIn tariffChanged burstChanged
     step-right (describe t ls b) = rw (rulings-agree h x (describe t ls b)) (describe-right t ls b (rulingAfter D S h (describe t ls b)) refl)
     step-right (hook Keep) = (refl, x)
     step-right (hook Stop) = (ap accepted (owed-agrees h x), burst-at D S clock cfg true NoBurst tt (tariff-at D S clock cfg NoTariff [] tt x))
     step-right (period n) = rw (rulings-agree h x (period n)) (period-right n (rulingAfter D S h (period n)) refl)
     step-right noPeriod = (refl, period-at D S clock cfg 0 x)
     step-right audit = (counters-agree h x, x)
-    step-right tick = let k = tick-at D S clock cfg x in (ap ticked (k .0), k .1)
+    step-right tick = let k = tick-at D S clock cfg x in (ap ticked (k .0), rw (← counted-held (tickOf l .tick .front) (frontsSinceEm h)) (k .1))
 
   -- ---- histories
   pub data Run : List Entry → Line → Type 0 where
@@ -97,7 +99,7 @@ module _ (D S clock : ℕ) (cfg : Config D S) where
 
   module _ (small : clock < 2 ^ 32) where
     pub coupled : {h : List Entry} {l : Line} → Run h l → Coupled D S clock h l
-    unfolding ticks lastFront burstIn running total sinceReport periodIn freshLine
+    unfolding ticks lastFront burstIn running frontsSinceEm sinceReport periodIn freshLine
     coupled begin = fresh-at clock (omega arith)
     coupled (more {h = h} {l = l} {c = c} r e) = right-of h c (step l c) e (step-right h (coupled r) c) .1
 

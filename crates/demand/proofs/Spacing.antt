@@ -11,7 +11,7 @@ use Rattle.answers.specs.declared.Front.the-variants.{None, Tariff as TariffFro
 use Rattle.tariff.specs.Steps.{stepOf}
 use Rattle.tariff.specs.declared.Slot.{Slot}
 use Rattle.tariff.specs.declared.Slot.the-variants.{None as NoSlot, Empty, Pulse}
-use Rattle.slots.specs.Running.{slotAt}
+use Rattle.slots.specs.Slots.{slotAt}
 use Rattle.descriptor.specs.declared.Ruling.the-variants.{Allowed, TurnedDown}
 use Rattle.line.specs.Rules.{frontAt}
 use Rattle.line.specs.declared.Line.{Line}

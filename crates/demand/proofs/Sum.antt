@@ -10,7 +10,7 @@ use Rattle.answers.specs.Fronts.{ifBurst, isBurstFront}
 use Rattle.answers.specs.declared.Front.the-variants.{None, Burst as BurstFront}
 use Rattle.tariff.specs.declared.Slot.{Slot}
 use Rattle.tariff.specs.declared.Slot.the-variants.{None as NoSlot, Empty, Pulse}
-use Rattle.slots.specs.Running.{slotAt, runsEndless}
+use Rattle.slots.specs.Slots.{slotAt, runsEndless}
 use Rattle.descriptor.specs.declared.Ruling.the-variants.{Allowed, TurnedDown}
 use Rattle.descriptor.specs.declared.BurstPart.{BurstPart}
 use Rattle.descriptor.specs.declared.BurstPart.the-variants.{None as NoBurst, Keep as KeepBurst, Start}
@@ -18,8 +18,8 @@ use Rattle.descriptor.specs.declared.Hook.the-variants.{Keep, Stop}
 use Rattle.line.specs.Rules.{cancelledBy, frontAt}
 use Rattle.line.specs.Lines.{onOf}
 use Rattle.line.specs.declared.Line.{Line}
-use Rattle.demand.specs.Calls.{Call, describe, hook, period, noPeriod, audit, tick, Answer, Entry, asks}
-use Rattle.demand.specs.History.{granted, frontOf, cancelledIn, pulsesOf, sum, ticks, acceptedPulses, begun, cancelled, at, passed, Started, idle, started, oneBegun, burstBy, burstIn, owedOf, owed, burstRuns, burstReady, running}
+use Rattle.demand.specs.Calls.{Call, describe, hook, period, noPeriod, audit, tick, Answer, accepted, refused, counters, ticked, Entry, asks}
+use Rattle.demand.specs.History.{granted, frontOf, sum, ticks, acceptedPulses, begun, cancelled, at, passed, Started, idle, started, oneBegun, burstBy, burstIn, owedOf, owed, burstRuns, burstReady, running}
 use Rattle.demand.specs.Answers.{rulingAfter, burstMayStart}
 use Rattle.demand.proofs.Coupled.{Config}
 use Rattle.demand.proofs.Taken.{starts-idle}
@@ -41,6 +41,13 @@ begun-owes S now idle h = absurd (let o : _≡_ {A = ℕ} 0 1 = cc in omega arit
 begun-owes S now (started n P k last) h =
     let l = ltb-true k n (and-eq-true-iff (ltb k n) (passed (max P S) last now) .0 h .0) in
     omega arith
+
+-- the n of a burst start, and the pulses that an answer reports cancelled
+abbrev pulsesOf : BurstPart → ℕ
+pulsesOf b = elim b [ NoBurst ↦ 0 | KeepBurst ↦ 0 | Start n P ↦ n ]
+
+abbrev cancelledIn : Answer → ℕ
+cancelledIn a = elim a [ accepted k ↦ k | refused n ↦ 0 | counters m n ↦ 0 | ticked t ↦ 0 ]
 
 -- what an entry adds to each count of the sum, where b is the burst before it
 abbrev Balanced : Entry → ℕ → Started → Type 0

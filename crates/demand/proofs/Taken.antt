@@ -8,7 +8,7 @@ use borrow.Author.Tests.{leb-true, not-false}
 use lib.Dec.{leb}
 use lib.ListN.{length}
 use Rattle.tariff.specs.Rules.{within, soundEm, soundPhases}
-use Rattle.slots.specs.Running.{Running, runsEndless}
+use Rattle.slots.specs.Slots.{Running, runsEndless}
 use Rattle.phase_lists.specs.Lists.{Lists, phasesOf, soundLists}
 use Rattle.descriptor.specs.Refusals.{ruling, soundBurst, tariffCauses, burstCauses}
 use Rattle.descriptor.specs.declared.Ruling.the-variants.{Allowed}

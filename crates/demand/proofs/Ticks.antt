@@ -15,7 +15,7 @@ use Rattle.tariff.specs.declared.Tariff.{Tariff}
 use Rattle.tariff.specs.declared.Slot.{Slot}
 use Rattle.tariff.specs.declared.Slot.the-variants.{None as NoSlot, Empty, Pulse}
 use Rattle.tariff.specs.declared.Stepped.{Stepped}
-use Rattle.slots.specs.Running.{Running, nothing, slotAt, completesAt, quietFor}
+use Rattle.slots.specs.Slots.{Running, nothing, slotAt, completesAt, quietFor}
 use Rattle.burst.specs.Bursts.{heldMore, agedOf, readyOf, begunOf}
 use Rattle.burst.specs.declared.Burst.{Burst}
 use Rattle.burst.specs.declared.Aged.{Aged}
@@ -23,13 +23,14 @@ use Rattle.line.specs.Rules.{oneMore, reportDue, frontAt}
 use Rattle.line.specs.Lines.{countOf, tickWithFront, tickOf}
 use Rattle.line.specs.declared.Count.{Count}
 use Rattle.line.specs.declared.Line.{Line}
-use Rattle.demand.specs.History.{Last, at, passed, Started, oneBegun, burstCompletes, burstReady, countBy}
+use Rattle.demand.specs.History.{Last, at, passed, Started, oneBegun, burstCompletes, burstReady}
 use Rattle.slots.proofs.Ahead.{nextOf, Waits, Good}
 use Rattle.slots.proofs.Agree.{Agree, Next, waits, empty, pulse}
 use Rattle.slots.proofs.Tick.{good-step, next-step}
 use Rattle.slots.proofs.Coupling.{agree-now, agree-complete, agree-tick, runs-on}
 use Rattle.slots.proofs.Room.{room-next, agree-room}
 use Rattle.demand.proofs.Held.{heldSince, Before, before-more, held-more}
+use Rattle.demand.proofs.Counters.{countBy}
 use Rattle.demand.proofs.Coupled.{Config, Apart, BurstAt, At, line-at}
 use Rattle.demand.proofs.Bursts.{burst-aged, burst-ready, burst-begun}
 

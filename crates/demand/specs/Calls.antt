@@ -38,24 +38,18 @@ pub record Asked : Type 0 where
   pub period : ℕ → ℕ
   pub tick : Bool
 
-abbrev pub asksParts : TariffPart → List Phase → BurstPart → Asked
-asksParts t ps b = record { tariff = t; phases = ps; burst = b; period = λ rp. rp; tick = false }
-
-abbrev pub asksPeriod : ℕ → Asked
-asksPeriod n = record { tariff = KeepTariff; phases = []; burst = KeepBurst; period = λ rp. n; tick = false }
-
-abbrev pub asksTick : Asked
-asksTick = record { tariff = KeepTariff; phases = []; burst = KeepBurst; period = λ rp. rp; tick = true }
+abbrev pub asking : TariffPart → List Phase → BurstPart → (ℕ → ℕ) → Bool → Asked
+asking t ps b f isTick = record { tariff = t; phases = ps; burst = b; period = f; tick = isTick }
 
 -- what a call asks; a report period of 0 is none
 abbrev pub asks : Call → Asked
-asks (describe t ls b) = asksParts t (phasesOf ls) b
-asks (hook KeepHook) = asksParts KeepTariff [] KeepBurst
-asks (hook Stop) = asksParts NoTariff [] NoBurst
-asks (period rp) = asksPeriod rp
-asks noPeriod = asksPeriod 0
-asks audit = asksParts KeepTariff [] KeepBurst
-asks tick = asksTick
+asks (describe t ls b) = asking t (phasesOf ls) b (λ rp. rp) false
+asks (hook KeepHook) = asking KeepTariff [] KeepBurst (λ rp. rp) false
+asks (hook Stop) = asking NoTariff [] NoBurst (λ rp. rp) false
+asks (period n) = asking KeepTariff [] KeepBurst (λ rp. n) false
+asks noPeriod = asking KeepTariff [] KeepBurst (λ rp. 0) false
+asks audit = asking KeepTariff [] KeepBurst (λ rp. rp) false
+asks tick = asking KeepTariff [] KeepBurst (λ rp. rp) true
 
 -- what it may be refused for, on a line of spacing S: whether an em with C = 0 runs, and whether a burst runs
 abbrev pub causes : ℕ → Bool → Bool → Call → List Cause

@@ -6,12 +6,12 @@ use mathlib.Core.List.{List, [], _∷_, _++_}
 use Prim.Native.Nat.{ℕ, _+_, _-_, _*_, _%_, _^_, min, max, _≤_}
 use lib.Dec.{ltb}
 use Rattle.answers.specs.Fronts.{isFront}
-use Rattle.slots.specs.Running.{slotAt}
+use Rattle.slots.specs.Slots.{slotAt}
 use Rattle.demand.specs.Names.{TariffFront, BurstFront, Pulse, Stop, BurstPart, NoBurst, KeepBurst, Start}
 use Rattle.demand.specs.Names.{TariffPart, NoTariff, KeepTariff, Rate, Em, Phased}
 use Rattle.demand.specs.Calls.{Call, hook, audit, Answer, accepted, counters, Entry}
 use Rattle.demand.specs.History.{granted, frontOf, ticks, acceptedPulses, begun, cancelled, owed, lastFront}
-use Rattle.demand.specs.History.{pulseOn, running, zeroedBy, sinceReport}
+use Rattle.demand.specs.History.{pulseOn, running, frontsSinceEm, sinceReport}
 use Rattle.demand.specs.Answers.{answerAfter}
 use Rattle.demand.specs.Machine.{history}
 
@@ -19,11 +19,7 @@ use Rattle.demand.specs.Machine.{history}
 abbrev pub isFresh : TariffPart → ℕ
 isFresh t = elim t [ NoTariff ↦ 0 | KeepTariff ↦ 0 | Rate P ↦ 0 | Em C P ↦ 1 | Phased ↦ 1 ]
 
-abbrev pub isNone : BurstPart → ℕ
-isNone b = elim b [ NoBurst ↦ 1 | KeepBurst ↦ 0 | Start n P ↦ 0 ]
-
--- rest is what follows the call that started a burst of n pulses. Of its entries count those that stand before the
--- burst's last pulse, or all if that pulse has not begun
+-- of the entries after the start of a burst of n pulses, rest, those before its last pulse, or all if it has not begun
 unfoldable pub beforeLast : (Entry → ℕ) → ℕ → List Entry → ℕ
 beforeLast f n [] = 0
 beforeLast f n (e ∷ rest) = cond (ltb (begun rest) n) (f e) 0 + beforeLast f n rest
@@ -34,7 +30,7 @@ freshBefore n rest = beforeLast (λ e. isFresh (granted e .tariff)) n rest
 
 -- burst parts none and hook stops accepted there: the burst is cancelled before its last pulse if there is one
 abbrev pub cancelsBefore : ℕ → List Entry → ℕ
-cancelsBefore n rest = beforeLast (λ e. isNone (granted e .burst)) n rest
+cancelsBefore n rest = beforeLast (λ e. elim (granted e .burst) [ NoBurst ↦ 1 | KeepBurst ↦ 0 | Start m P ↦ 0 ]) n rest
 
 -- (2n + 1) S + (n − 1) B + R × 2S, B the larger of P and S
 abbrev pub deadline : ℕ → ℕ → ℕ → ℕ → ℕ
@@ -45,11 +41,6 @@ abbrev pub LastBegins : ℕ → ℕ → List Entry → Type 0
 LastBegins n k rest =
     (after until : List Entry) × (e : Entry) × (rest ≡ after ++ (e ∷ until)) × (frontOf e ≡ BurstFront) ×
     (begun until + 1 ≡ n) × (ticks (e ∷ until) ≤ k)
-
--- the fronts since the last accepted fresh em, or since the start
-unfoldable pub frontsSinceEm : List Entry → ℕ
-frontsSinceEm [] = 0
-frontsSinceEm (e ∷ h) = zeroedBy (granted e .tariff) (isFront (frontOf e) + frontsSinceEm h)
 
 -- a list of calls on a line of pulse length D and gap G
 module _ (D G clock : ℕ) (cs : List Call) where

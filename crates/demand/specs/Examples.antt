@@ -9,7 +9,7 @@ use Rattle.pulse_map.specs.Pulses.{pulsesIn}
 use Rattle.pulse_map.specs.Examples.{Example, starred, Holds}
 use Rattle.tariff.specs.Rules.{soundEm, distanceOf}
 use Rattle.tariff.specs.declared.Slot.{Slot}
-use Rattle.slots.specs.Running.{noSlot}
+use Rattle.slots.specs.Slots.{noSlot}
 use Rattle.slots.specs.Slots.{anyBelow, countedSlot}
 use Rattle.phase_lists.specs.Lists.{noLists}
 use Rattle.descriptor.specs.Refusals.{ruling}

@@ -4,16 +4,15 @@ use mathlib.Core.List.{List, [], _∷_}
 use Prim.Native.Nat.{ℕ, _+_, _-_, max}
 use lib.Dec.{leb, ltb, eqb}
 use Rattle.answers.specs.Fronts.{silent, ifFront, ifBurst, isBurstFront}
-use Rattle.slots.specs.Running.{Running, nothing, phased, emAt, rated, completesAt}
+use Rattle.slots.specs.Slots.{Running, nothing, phased, emAt, rated, completesAt}
 use Rattle.line.specs.Rules.{oneMore}
 use Rattle.demand.specs.Names.{Front, Tick, Phase, TariffPart, NoTariff, KeepTariff, Rate, Em, Phased}
 use Rattle.demand.specs.Names.{BurstPart, NoBurst, KeepBurst, Start}
-use Rattle.demand.specs.Calls.{Answer, accepted, refused, counters, ticked, Entry, Asked, asksParts, asks}
+use Rattle.demand.specs.Calls.{audit, Answer, accepted, refused, counters, ticked, Entry, Asked, asks}
 
--- what the call of an entry asked; a refused call gets nothing of it
+-- what the call of an entry asked; a refused call gets no more than an audit
 abbrev pub unlessRefused : Answer → Asked → Asked
-unlessRefused a x =
-    elim a [ accepted k ↦ x | refused n ↦ asksParts KeepTariff [] KeepBurst | counters m n ↦ x | ticked t ↦ x ]
+unlessRefused a x = elim a [ accepted k ↦ x | refused n ↦ asks audit | counters m n ↦ x | ticked t ↦ x ]
 
 abbrev pub granted : Entry → Asked
 granted e = unlessRefused (e .answer) (asks (e .call))
@@ -31,22 +30,16 @@ sum f [] = 0
 sum f (e ∷ h) = f e + sum f h
 
 -- accepted: the sum of n over the accepted burst starts
-abbrev pub pulsesOf : BurstPart → ℕ
-pulsesOf b = elim b [ NoBurst ↦ 0 | KeepBurst ↦ 0 | Start n P ↦ n ]
-
 abbrev pub acceptedPulses : List Entry → ℕ
-acceptedPulses h = sum (λ e. pulsesOf (granted e .burst)) h
+acceptedPulses h = sum (λ e. elim (granted e .burst) [ NoBurst ↦ 0 | KeepBurst ↦ 0 | Start n P ↦ n ]) h
 
 -- begun: the number of burst fronts
 abbrev pub begun : List Entry → ℕ
 begun h = sum (λ e. isBurstFront (frontOf e)) h
 
 -- reported cancelled: the sum of the cancelled counts answered
-abbrev pub cancelledIn : Answer → ℕ
-cancelledIn a = elim a [ accepted k ↦ k | refused n ↦ 0 | counters m n ↦ 0 | ticked t ↦ 0 ]
-
 abbrev pub cancelled : List Entry → ℕ
-cancelled h = sum (λ e. cancelledIn (e .answer)) h
+cancelled h = sum (λ e. elim (e .answer) [ accepted k ↦ k | refused n ↦ 0 | counters m n ↦ 0 | ticked t ↦ 0 ]) h
 
 -- ticks are numbered from 1: the next one is ticks h + 1
 unfoldable pub ticks : List Entry → ℕ
@@ -79,9 +72,8 @@ abbrev pub oneBegun : ℕ → Started → Started
 oneBegun now b = elim b [ idle ↦ idle | started n P k last ↦ started n P (k + 1) (at now) ]
 
 abbrev pub burstBy : BurstPart → Front → ℕ → Started → Started
-burstBy NoBurst f now b = idle
-burstBy KeepBurst f now b = ifBurst f (oneBegun now b) b
-burstBy (Start n P) f now b = started n P 0 never
+burstBy p f now b =
+    elim p [ NoBurst ↦ idle | KeepBurst ↦ ifBurst f (oneBegun now b) b | Start n P ↦ started n P 0 never ]
 
 unfoldable pub burstIn : List Entry → Started
 burstIn [] = idle
@@ -113,11 +105,8 @@ originAfter S last c = elim last [ never ↦ c + 1 | at u ↦ max (c + 1) (u + S
 
 -- what an accepted tariff part makes of what ran after tick c; f is the origin of a fresh tariff
 abbrev pub changedBy : TariffPart → List Phase → ℕ → ℕ → Running → Running
-changedBy NoTariff ps f c r = nothing
-changedBy KeepTariff ps f c r = r
-changedBy (Rate P) ps f c r = rated r c P
-changedBy (Em C P) ps f c r = emAt f C P
-changedBy Phased ps f c r = phased f ps
+changedBy t ps f c r =
+    elim t [ NoTariff ↦ nothing | KeepTariff ↦ r | Rate P ↦ rated r c P | Em C P ↦ emAt f C P | Phased ↦ phased f ps ]
 
 -- a tariff runs to the tick of its completion or, if earlier, to a change
 unfoldable pub running : ℕ → ℕ → List Entry → Running
@@ -130,19 +119,17 @@ running D S (e ∷ h) =
 abbrev pub zeroedBy : TariffPart → ℕ → ℕ
 zeroedBy t n = elim t [ NoTariff ↦ n | KeepTariff ↦ n | Rate P ↦ n | Em C P ↦ 0 | Phased ↦ n ]
 
-abbrev pub countBy : Front → ℕ → ℕ
-countBy f n = ifFront f (oneMore n) n
-
--- cpc: the pulses applied
-unfoldable pub total : List Entry → ℕ
-total [] = 0
-total (e ∷ h) = zeroedBy (granted e .tariff) (countBy (frontOf e) (total h))
+-- the fronts since the last accepted fresh em, or since the start
+unfoldable pub frontsSinceEm : List Entry → ℕ
+frontsSinceEm [] = 0
+frontsSinceEm (e ∷ h) = zeroedBy (granted e .tariff) (ifFront (frontOf e) (frontsSinceEm h + 1) (frontsSinceEm h))
 
 -- pcslr: the pulses since the last report
 unfoldable pub sinceReport : List Entry → ℕ
 sinceReport [] = 0
 sinceReport (e ∷ h) =
-    zeroedBy (granted e .tariff) (cond (told (e .answer) .report) 0 (countBy (frontOf e) (sinceReport h)))
+    zeroedBy (granted e .tariff)
+    (cond (told (e .answer) .report) 0 (ifFront (frontOf e) (oneMore (sinceReport h)) (sinceReport h)))
 
 -- the report period that is set, 0 for none
 unfoldable pub periodIn : List Entry → ℕ

@@ -6,13 +6,15 @@ use lib.Dec.{eqb}
 use Rattle.tariff.specs.Rules.{within, soundEm, soundPhases}
 use Rattle.phase_lists.specs.Lists.{Lists, phasesOf, soundLists}
 use Rattle.descriptor.specs.declared.TariffPart.{TariffPart}
-use Rattle.descriptor.specs.declared.TariffPart.the-variants.{None as NoTariff, Keep as KeepTariff, Rate, Em, Phased}
+use Rattle.descriptor.specs.declared.TariffPart.the-variants.{None as NoTariff, Keep as KeepTariff}
+use Rattle.descriptor.specs.declared.TariffPart.the-variants.{Rate, Em, Phased}
 use Rattle.descriptor.specs.declared.BurstPart.{BurstPart}
 use Rattle.descriptor.specs.declared.BurstPart.the-variants.{None as NoBurst, Keep as KeepBurst, Start}
 use Rattle.descriptor.specs.declared.Refusal.{Refusal}
 use Rattle.descriptor.specs.declared.Ruling.{Ruling}
 use Rattle.descriptor.specs.declared.Ruling.the-variants.{Allowed, TurnedDown}
-use Rattle.descriptor.specs.declared.Refusal.the-variants.{Configuration, Period, NoEndlessEm, Interval, Lists as PhaseLists, Phase, Burst, BurstRuns}
+use Rattle.descriptor.specs.declared.Refusal.the-variants.{Configuration, Period, NoEndlessEm, Interval}
+use Rattle.descriptor.specs.declared.Refusal.the-variants.{Lists as PhaseLists, Phase, Burst, BurstRuns}
 
 -- the paper's number of each cause
 abbrev pub refusalNumber : Refusal → ℕ

@@ -9,7 +9,7 @@ use Rattle.tariff.specs.declared.Slot.{Slot}
 use Rattle.tariff.specs.declared.Slot.the-variants.{None, Empty, Pulse}
 use Rattle.tariff.specs.declared.Tariff.{Tariff}
 use Rattle.tariff.specs.declared.Tariff.the-variants.{Endless}
-use Rattle.slots.specs.Running.{Running, endless, slotAt, completesAt, firstPast, runsEndless}
+use Rattle.slots.specs.Slots.{Running, endless, slotAt, completesAt, firstPast, runsEndless}
 use Rattle.slots.proofs.Ahead.{ahead, completesIn}
 
 -- of an em with C = 0: the same interval, and the first slot past tick i

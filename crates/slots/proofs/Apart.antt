@@ -9,7 +9,7 @@ use Rattle.tariff.specs.declared.Phase.{Phase}
 use Rattle.tariff.specs.declared.Slot.{Slot}
 use Rattle.tariff.specs.declared.Slot.the-variants.{None}
 use Rattle.tariff.specs.declared.Tariff.{Tariff}
-use Rattle.slots.specs.Running.{from}
+use Rattle.slots.specs.Slots.{from}
 use Rattle.slots.proofs.From.{from-past, from-begun}
 use Rattle.slots.proofs.Ahead.{Waits, Good, nextOf, slotsOf, ahead}
 use Rattle.slots.proofs.Agree.{Next, waits, empty, pulse}

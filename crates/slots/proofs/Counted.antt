@@ -15,7 +15,7 @@ use Rattle.tariff.specs.declared.Phase.{Phase}
 use Rattle.tariff.specs.declared.Slot.the-variants.{None, Pulse}
 use Rattle.tariff.specs.declared.Tariff.the-variants.{Counted}
 use Rattle.slots.specs.Slots.{countedSlot}
-use Rattle.slots.specs.Running.{from}
+use Rattle.slots.specs.Slots.{from}
 use Rattle.slots.proofs.Order.{by-order, eqb-same}
 use Rattle.slots.proofs.Any.{any-some, any-none}
 use Rattle.slots.proofs.From.{from-is, from-none}

@@ -9,7 +9,7 @@ use Rattle.tariff.specs.Steps.{stepOf}
 use Rattle.tariff.specs.declared.Phase.{Phase}
 use Rattle.tariff.specs.declared.Tariff.{Tariff}
 use Rattle.tariff.specs.declared.Tariff.the-variants.{Idle, Endless, Counted, Phased, Ending}
-use Rattle.slots.specs.Running.{Running, nothing, slotAt, completesAt}
+use Rattle.slots.specs.Slots.{Running, nothing, slotAt, completesAt}
 use Rattle.slots.proofs.Ahead.{Waits, Good}
 use Rattle.slots.proofs.Agree.{Agree}
 use Rattle.slots.proofs.Step.{isEnding, afterDue, by-step}

@@ -6,7 +6,7 @@ use native.Mathlib.Omega.{arith}
 use borrow.Author.Tests.{lt-ltb, le-ltb, ne-eqb}
 use Rattle.tariff.specs.declared.Slot.the-variants.{Pulse}
 use Rattle.slots.specs.Slots.{endlessSlot}
-use Rattle.slots.specs.Running.{from, firstPast}
+use Rattle.slots.specs.Slots.{from, firstPast}
 use Rattle.slots.proofs.Order.{by-order}
 use Rattle.slots.proofs.From.{from-is}
 

@@ -9,7 +9,7 @@ use Rattle.tariff.specs.Steps.{emOf, phasedOf}
 use Rattle.tariff.specs.declared.Phase.{Phase}
 use Rattle.tariff.specs.declared.Tariff.the-variants.{Idle, Counted}
 use Rattle.slots.specs.Slots.{endlessSlot, countedSlot, phasedSlot, neverEnd}
-use Rattle.slots.specs.Running.{nothing, phased, emAt, slotAt, completesAt}
+use Rattle.slots.specs.Slots.{nothing, phased, emAt, slotAt, completesAt}
 use Rattle.slots.proofs.Order.{eqb-same}
 use Rattle.slots.proofs.From.{from-same}
 use Rattle.slots.proofs.Ahead.{slotsOf, completesIn}

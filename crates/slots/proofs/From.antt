@@ -6,7 +6,7 @@ use native.Mathlib.Omega.{arith}
 use borrow.Author.Tests.{le-leb, lt-leb}
 use Rattle.tariff.specs.declared.Slot.{Slot}
 use Rattle.tariff.specs.declared.Slot.the-variants.{None}
-use Rattle.slots.specs.Running.{from}
+use Rattle.slots.specs.Slots.{from}
 use Rattle.slots.proofs.Order.{by-order}
 
 pub from-past : (g : ℕ → Slot) (f y : ℕ) → f ≤ y → from f g y ≡ g (y - f)

@@ -16,7 +16,7 @@ use Rattle.tariff.specs.declared.Slot.{Slot}
 use Rattle.tariff.specs.declared.Slot.the-variants.{None, Empty, Pulse}
 use Rattle.tariff.specs.declared.Tariff.the-variants.{Endless, Counted}
 use Rattle.slots.specs.Slots.{endlessSlot, countedSlot, phasedSlot}
-use Rattle.slots.specs.Running.{Running, nothing, endless, counted, phased, slotAt, NextSlot, noSlot, quietFor}
+use Rattle.slots.specs.Slots.{Running, nothing, endless, counted, phased, slotAt, noSlot, quietFor}
 use Rattle.slots.proofs.Order.{by-order, by-equal}
 use Rattle.slots.proofs.Ahead.{slotsOf}
 use Rattle.slots.proofs.Counted.{counted-start}
@@ -51,6 +51,12 @@ slots-apart S r t u spaced (phases f ps some eight ok) first second l =
     from-apart S ps n spaced (phasedSlot ps) (phasedOf ps 1)
     (phased-start-good S ps n 1 spaced some eight whole (rw (take-length ps) ok) (omega arith))
     (λ x. sym (past-due ps n (phasedOf ps 1) x (next-phased ps 1)) ∙ rw (take-length ps) at (start x)) f t u first second l
+
+-- the next slot past tick t is at tick u: the least later tick with a slot, an empty one too
+pub record NextSlot (r : Running) (t u : ℕ) : Type 0 where
+  pub later : t < u
+  pub slot : slotAt r u ≡ None → ⊥
+  pub least : (v : ℕ) → t < v → v < u → slotAt r v ≡ None
 
 none-of : (s : Slot) → noSlot s ≡ true → s ≡ None
 none-of None e = refl

@@ -10,7 +10,7 @@ use Rattle.tariff.specs.Steps.{phaseAt, pulsesAt, afterCounted, stepOf, emOf, r
 use Rattle.tariff.specs.declared.Phase.{Phase}
 use Rattle.tariff.specs.declared.Tariff.{Tariff}
 use Rattle.tariff.specs.declared.Tariff.the-variants.{Idle, Endless, Counted, Phased, Ending}
-use Rattle.slots.specs.Running.{Running, runsEndless, rated}
+use Rattle.slots.specs.Slots.{Running, runsEndless, rated}
 use Rattle.slots.proofs.Ahead.{Good}
 use Rattle.slots.proofs.Agree.{Agree, SameRate, steady, other}
 use Rattle.slots.proofs.Endless.{first-waits, first-due}

@@ -12,14 +12,14 @@ use Rattle.tariff.specs.declared.Phase.{Phase}
 use Rattle.tariff.specs.declared.Slot.the-variants.{None}
 use Rattle.tariff.specs.declared.Tariff.{Tariff}
 use Rattle.tariff.specs.declared.Tariff.the-variants.{Idle, Endless, Counted, Phased, Ending}
-use Rattle.slots.specs.Running.{Running, slotAt, NextSlot, noSlot, quietFor}
+use Rattle.slots.specs.Slots.{Running, slotAt, noSlot, quietFor}
 use Rattle.slots.proofs.Order.{by-order, by-equal}
 use Rattle.slots.proofs.From.{from-past, from-before}
 use Rattle.slots.proofs.Ahead.{Good, nextOf, slotsOf, ahead}
 use Rattle.slots.proofs.Agree.{Agree}
 use Rattle.slots.proofs.Step.{dueSlot, none-left}
 use Rattle.slots.proofs.Due.{first-slot}
-use Rattle.slots.proofs.Laws.{next-unique, quiet-room}
+use Rattle.slots.proofs.Laws.{NextSlot, next-unique, quiet-room}
 
 -- room by the ticks to the next slot
 pub room-next : (S : ℕ) (a : List Phase) (n : ℕ) (t : Tariff) → Good S a n t

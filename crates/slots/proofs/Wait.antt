@@ -13,7 +13,7 @@ use Rattle.tariff.specs.declared.Slot.the-variants.{None}
 use Rattle.tariff.specs.declared.Tariff.{Tariff}
 use Rattle.tariff.specs.declared.Tariff.the-variants.{Idle, Endless, Counted, Phased, Ending}
 use Rattle.slots.specs.Slots.{neverEnd}
-use Rattle.slots.specs.Running.{from}
+use Rattle.slots.specs.Slots.{from}
 use Rattle.tariff.proofs.PhasedList.{after}
 use Rattle.slots.proofs.Order.{eqb-same}
 use Rattle.slots.proofs.From.{from-before, from-same}

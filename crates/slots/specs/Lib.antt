@@ -1,3 +1,2 @@
--- The files of this folder, lowest first.
+-- The files of this folder.
 pub mod Slots
-pub mod Running
