@@ -8,6 +8,7 @@ pub mod Bursts
 pub mod Ticks
 pub mod Taken
 pub mod AnswerKinds
+pub mod Acceptance
 pub mod Run
 pub mod Potential
 pub mod Effects

@@ -1,3 +1,4 @@
 -- The files of this folder, lowest first.
 pub mod Causes
+pub mod Table
 pub mod Rulings
