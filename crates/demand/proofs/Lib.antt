@@ -19,3 +19,4 @@ pub mod Demand
 pub mod Bounds
 pub mod Refused
 pub mod Methods
+pub mod Examples
