@@ -18,5 +18,4 @@ pub mod Spacing
 pub mod Demand
 pub mod Bounds
 pub mod Refused
-pub mod Methods
 pub mod Examples
