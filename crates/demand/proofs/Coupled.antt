@@ -39,5 +39,9 @@ module _ (D S clock : ℕ) where
     line-at : {w : ℕ} {t : Tariff} {ps : List Phase} {n : ℕ} {u : Burst} → w ≡ heldSince S last i → Before last i → Agree D ps n r t i → Good S ps n t → BurstAt D S i b u → Apart S w (nextOf t) →
         At i last b r cpc pcslr rp (record { pulse = D; spacing = S; clock = (clock + i) % 2 ^ 32; since = w; tariff = t; phases = ps; count = n; burst = u; counters = record { cpc = cpc; pcslr = pcslr; rp = rp } })
 
+  -- the total counter in another form
+  pub with-total : {i : ℕ} {last : Last} {b : Started} {r : Running} {cpc same pcslr rp : ℕ} {l : Line} → cpc ≡ same → At i last b r cpc pcslr rp l → At i last b r same pcslr rp l
+  with-total e x = rw e at x
+
   abbrev pub Coupled : List Entry → Line → Type 0
   Coupled h l = At (ticks h) (lastFront h) (burstIn h) (running D S h) (total h) (sinceReport h) (periodIn h) l

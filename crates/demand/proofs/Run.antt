@@ -29,7 +29,7 @@ use Rattle.slots.proofs.Fresh.{agree-idle}
 use Rattle.slots.proofs.Rate.{rate-runs}
 use Rattle.demand.proofs.Held.{held-on}
 use Rattle.demand.proofs.Counters.{total, counted-held, zeroed-held}
-use Rattle.demand.proofs.Coupled.{Config, At, line-at, Coupled, none}
+use Rattle.demand.proofs.Coupled.{Config, At, line-at, with-total, Coupled, none}
 use Rattle.demand.proofs.Bursts.{owed-is, runs-is}
 use Rattle.demand.proofs.Commands.{tariff-at, burst-at, period-at}
 use Rattle.demand.proofs.Taken.{taken}
@@ -66,7 +66,7 @@ module _ (D S clock : ℕ) (cfg : Config D S) where
     unfolding answerAfter ticks lastFront burstIn running frontsSinceEm sinceReport periodIn
     describe-right t ls b Allowed e =
         let both = taken S (runsEndless (running D S h)) (burstRuns D (burstIn h) (ticks h)) t ls b (running D S h) refl e in
-        (ap (λ (n : ℕ). accepted (cancelledBy b n)) (owed-agrees h x) ∙ ruled D S h (describe t ls b) e, rw (← zeroed-held t (frontsSinceEm h)) (burst-at D S clock cfg (burstRuns D (burstIn h) (ticks h)) b (both .1) (tariff-at D S clock cfg t (phasesOf ls) (both .0) x)))
+        (ap (λ (n : ℕ). accepted (cancelledBy b n)) (owed-agrees h x) ∙ ruled D S h (describe t ls b) e, with-total D S clock (zeroed-held t (frontsSinceEm h)) (burst-at D S clock cfg (burstRuns D (burstIn h) (ticks h)) b (both .1) (tariff-at D S clock cfg t (phasesOf ls) (both .0) x)))
     describe-right t ls b (TurnedDown r) e = (ruled D S h (describe t ls b) e, x)
 
     period-right : (n : ℕ) (u : Ruling) → rulingAfter D S h (period n) ≡ u → Right h (period n) (answered (answeredBy u l (withPeriod l n) 0))
@@ -82,7 +82,7 @@ module _ (D S clock : ℕ) (cfg : Config D S) where
     step-right (period n) = rw (rulings-agree h x (period n)) (period-right n (rulingAfter D S h (period n)) refl)
     step-right noPeriod = (refl, period-at D S clock cfg 0 x)
     step-right audit = (counters-agree h x, x)
-    step-right tick = let k = tick-at D S clock cfg x in (ap ticked (k .0), rw (← counted-held (tickOf l .tick .front) (frontsSinceEm h)) (k .1))
+    step-right tick = let k = tick-at D S clock cfg x in (ap ticked (k .0), with-total D S clock (counted-held (tickOf l .tick .front) (frontsSinceEm h)) (k .1))
 
   -- ---- histories
   pub data Run : List Entry → Line → Type 0 where
