@@ -6,7 +6,8 @@ pub use Rattle.tariff.specs.declared.Phase.{Phase}
 pub use Rattle.tariff.specs.declared.Slot.{Slot}
 pub use Rattle.tariff.specs.declared.Slot.the-variants.{None as NoSlot, Empty, Pulse}
 pub use Rattle.descriptor.specs.declared.TariffPart.{TariffPart}
-pub use Rattle.descriptor.specs.declared.TariffPart.the-variants.{None as NoTariff, Keep as KeepTariff, Rate, Em, Phased}
+pub use Rattle.descriptor.specs.declared.TariffPart.the-variants.{None as NoTariff, Keep as KeepTariff}
+pub use Rattle.descriptor.specs.declared.TariffPart.the-variants.{Rate, Em, Phased}
 pub use Rattle.descriptor.specs.declared.BurstPart.{BurstPart}
 pub use Rattle.descriptor.specs.declared.BurstPart.the-variants.{None as NoBurst, Keep as KeepBurst, Start}
 pub use Rattle.descriptor.specs.declared.Hook.{Hook}

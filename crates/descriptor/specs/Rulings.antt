@@ -8,10 +8,12 @@ use Rattle.phase_lists.specs.Tables.{noTable, tableOf}
 use Rattle.phase_lists.specs.declared.PhaseTable.{PhaseTable}
 use Rattle.descriptor.specs.Refusals.{soundBurst}
 use Rattle.descriptor.specs.declared.TariffPart.{TariffPart}
-use Rattle.descriptor.specs.declared.TariffPart.the-variants.{None as NoTariff, Keep as KeepTariff, Rate, Em, Phased}
+use Rattle.descriptor.specs.declared.TariffPart.the-variants.{None as NoTariff, Keep as KeepTariff}
+use Rattle.descriptor.specs.declared.TariffPart.the-variants.{Rate, Em, Phased}
 use Rattle.descriptor.specs.declared.BurstPart.{BurstPart}
 use Rattle.descriptor.specs.declared.BurstPart.the-variants.{None as NoBurst, Keep as KeepBurst, Start}
-use Rattle.descriptor.specs.declared.Refusal.the-variants.{NoEndlessEm, Interval, Lists as PhaseLists, Phase as BadPhase, Burst, BurstRuns}
+use Rattle.descriptor.specs.declared.Refusal.the-variants.{NoEndlessEm, Interval, Lists as PhaseLists}
+use Rattle.descriptor.specs.declared.Refusal.the-variants.{Phase as BadPhase, Burst, BurstRuns}
 use Rattle.descriptor.specs.declared.Ruling.{Ruling}
 use Rattle.descriptor.specs.declared.Ruling.the-variants.{Allowed, TurnedDown}
 
@@ -33,13 +35,15 @@ tariffRuling S e KeepTariff t = Allowed
 tariffRuling S e (Rate P) t = ruledBy (TurnedDown NoEndlessEm) e (ruledBy (TurnedDown Interval) (soundEm S 0 P) Allowed)
 tariffRuling S e (Em C P) t = ruledBy (TurnedDown Interval) (soundEm S C P) Allowed
 tariffRuling S e Phased t =
-    ruledBy (TurnedDown PhaseLists) (t .sound) (ruledBy (TurnedDown BadPhase) (soundPhases S (take (t .count) (t .phases))) Allowed)
+    ruledBy (TurnedDown PhaseLists) (t .sound)
+    (ruledBy (TurnedDown BadPhase) (soundPhases S (take (t .count) (t .phases))) Allowed)
 
 -- where running says whether a burst runs
 unfoldable pub burstRuling : Bool → BurstPart → Ruling
 burstRuling running NoBurst = Allowed
 burstRuling running KeepBurst = Allowed
-burstRuling running (Start n P) = ruledBy (TurnedDown Burst) (soundBurst n P) (cond running (TurnedDown BurstRuns) Allowed)
+burstRuling running (Start n P) =
+    ruledBy (TurnedDown Burst) (soundBurst n P) (cond running (TurnedDown BurstRuns) Allowed)
 
 -- a ruling, or where that is allowed the next
 abbrev pub andThen : Ruling → Ruling → Ruling

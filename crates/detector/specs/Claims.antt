@@ -7,7 +7,8 @@ use lib.IntN.{negsuc}
 use Rattle.detector.specs.declared.request.Request.the-variants.{Ric}
 use Rattle.detector.specs.Values.{heldCount, heldTicks}
 use Rattle.detector.specs.Notice.{event}
-use Rattle.detector.specs.History.{Entry, ticked, requestIn, pulsesIn, unreportedIn, sinceIn, lriIn, Answered, RicOn, EventAfter}
+use Rattle.detector.specs.History.{Entry, ticked, requestIn, pulsesIn, unreportedIn, sinceIn, lriIn}
+use Rattle.detector.specs.History.{Answered, RicOn, EventAfter}
 use Rattle.detector.specs.Run.{Call, after, history}
 
 pub record Claims (cs : List Call) : Type 0 where

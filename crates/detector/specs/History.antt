@@ -109,7 +109,8 @@ noticeAfter h pulse = noticeAt (requestIn h) pulse (lriIn h) (elapsedIn h) (coun
 abbrev pub Answered : List Entry → Entry → Type 0
 Answered h (asked events reply) = reply ≡ replyTo events
 Answered h (ticked pulse notice) = notice ≡ noticeAfter h pulse
-Answered h (audited lri cpc pcslr) = (lri ≡ lriIn h) × (cpc ≡ heldCount (pulsesIn h)) × (pcslr ≡ heldCount (unreportedIn h))
+Answered h (audited lri cpc pcslr) =
+    (lri ≡ lriIn h) × (cpc ≡ heldCount (pulsesIn h)) × (pcslr ≡ heldCount (unreportedIn h))
 
 -- ric is on.
 abbrev pub RicOn : Request → Type 0
@@ -121,7 +122,8 @@ RicOn (Ric rit) = Unit {0}
 abbrev pub Measurable : List Entry → ℕ → Type 0
 Measurable h rit = (lriIn h ≡ pos 0) ⊎ ((pos 0 <ℤ lriIn h) × (pos (elapsedIn h) <ℤ (lriIn h -ℤ pos rit)))
 
--- The events of a tick after h under ric with rit: of the first pulse, of an interval measured, of silence; with their numbers.
+-- The events of a tick after h under ric with rit, with their numbers: of the first pulse, of an interval measured, of
+-- silence.
 pub data EventAfter (h : List Entry) (rit : ℕ) : Bool → ℕ → ℕ → Type 0 where
   first : lriIn h ≡ negsuc 0 → EventAfter h rit true 0 (countedIn h true)
   measured : Measurable h rit → EventAfter h rit true (elapsedIn h) (countedIn h true)

@@ -1,4 +1,4 @@
--- The root of the definitions: rules on plain numbers, the state level, the history level, and the claims that join the two.
+-- The files of this folder: rules on plain numbers, the state level, the history level, and the claims that join the two.
 pub mod Values
 pub mod Request
 pub mod Notice

@@ -26,7 +26,8 @@ abbrev pub prNotice : Bool → ℕ → ℕ → Notice
 prNotice true rp pcslr = cond (eqb pcslr rp) report nothing
 prNotice false rp pcslr = nothing
 
--- Under ric a pulse at lri −1 gives event (0, pcslr); at lri 0, event (e, pcslr); at lri above 0, only if e < lri − rit, event (e, pcslr).
+-- Under ric a pulse at lri −1 gives event (0, pcslr); at lri 0, event (e, pcslr); at lri above 0, only if e < lri − rit,
+-- event (e, pcslr).
 abbrev pub pulseNotice : (lri : ℤ) (rit e pcslr : ℕ) → Notice
 pulseNotice (negsuc n) rit e pcslr = event 0 pcslr
 pulseNotice (pos zero) rit e pcslr = event e pcslr
@@ -43,7 +44,8 @@ abbrev pub ricNotice : Bool → (lri : ℤ) (rit e pcslr : ℕ) → Notice
 ricNotice true = pulseNotice
 ricNotice false = silenceNotice
 
--- Whether a tick gives an event under ric: a pulse at lri −1 or 0, or where e < lri − rit; no pulse where lri > 0 and e = lri + rit.
+-- Whether a tick gives an event under ric: a pulse at lri −1 or 0, or where e < lri − rit; no pulse where lri > 0 and
+-- e = lri + rit.
 abbrev pub ricEvent : Bool → (lri : ℤ) (rit e : ℕ) → Bool
 ricEvent true lri rit e = leZ lri (pos 0) || ltZ (pos e) (lri -ℤ pos rit)
 ricEvent false lri rit e = cond (leZ lri (pos 0)) false (eqb e (natAbs lri + rit))

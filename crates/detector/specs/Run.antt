@@ -14,9 +14,11 @@ pub data Call : Type 0 where
 
 -- What a call leaves: the detector, and the call with its answer.
 abbrev pub call : Detector → Call → Outcome Entry
-call d (ask events) = record { detector = requestOf d events .detector; answer = asked events (requestOf d events .answer) }
+call d (ask events) =
+    record { detector = requestOf d events .detector; answer = asked events (requestOf d events .answer) }
 call d (tick pulse) = record { detector = tickOf d pulse .detector; answer = ticked pulse (tickOf d pulse .answer) }
-call d audit = record { detector = auditOf d .detector; answer = audited (auditOf d .lri) (auditOf d .cpc) (auditOf d .pcslr) }
+call d audit =
+    record { detector = auditOf d .detector; answer = audited (auditOf d .lri) (auditOf d .cpc) (auditOf d .pcslr) }
 
 -- The calls so far with their answers, newest first, and the detector that they leave.
 pub record Past : Type 0 where

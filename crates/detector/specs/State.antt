@@ -22,7 +22,8 @@ pub record Outcome (A : Type 0) : Type 0 where
 abbrev pub fresh : Detector
 fresh = record { request = Off; lri = negsuc 0; cpc = 0; pcslr = 0; since = topTicks }
 
--- The same request again changes nothing; another non-off one zeroes the counters and sets lri to −1; off sets lri to −1 and leaves the counters.
+-- The same request again changes nothing; another non-off one zeroes the counters and sets lri to −1; off sets lri to −1
+-- and leaves the counters.
 abbrev pub changedBy : (same enables : Bool) → Request → Detector → Detector
 changedBy true enables q d = d
 changedBy false true q d = record { request = q; lri = negsuc 0; cpc = 0; pcslr = 0; since = d .since }
@@ -47,8 +48,16 @@ requestedAs r = record { detector = r .detector; answer = replyOf (r .answer) }
 
 -- Each pulse adds 1 to both counters, held.
 abbrev pub pulsed : Bool → Detector → Detector
-pulsed true d = record { request = d .request; lri = d .lri; cpc = heldCount (suc (d .cpc)); pcslr = heldCount (suc (d .pcslr)); since = 0 }
-pulsed false d = record { request = d .request; lri = d .lri; cpc = d .cpc; pcslr = d .pcslr; since = elapsed (d .since) }
+pulsed true d =
+    record {
+      request = d .request;
+      lri = d .lri;
+      cpc = heldCount (suc (d .cpc));
+      pcslr = heldCount (suc (d .pcslr));
+      since = 0;
+    }
+pulsed false d =
+    record { request = d .request; lri = d .lri; cpc = d .cpc; pcslr = d .pcslr; since = elapsed (d .since) }
 
 -- While it is off, ticks change nothing.
 abbrev pub countedOf : Bool → Detector → Detector
@@ -58,7 +67,8 @@ countedOf pulse d = cond (enabled (d .request)) (pulsed pulse d) d
 abbrev pub notified : Detector → Notice → Detector
 notified d nothing = d
 notified d report = record { request = d .request; lri = d .lri; cpc = d .cpc; pcslr = 0; since = d .since }
-notified d (event interval count) = record { request = d .request; lri = pos interval; cpc = d .cpc; pcslr = 0; since = d .since }
+notified d (event interval count) =
+    record { request = d .request; lri = pos interval; cpc = d .cpc; pcslr = 0; since = d .since }
 
 -- The detector after a notice, with the notice.
 abbrev pub settled : Detector → Notice → Outcome Notice
@@ -66,7 +76,9 @@ settled d n = record { detector = notified d n; answer = n }
 
 -- One tick, with or without a pulse.
 abbrev pub tickOf : Detector → Bool → Outcome Notice
-tickOf d pulse = settled (countedOf pulse d) (noticeAt (d .request) pulse (d .lri) (elapsed (d .since)) (countedOf pulse d .pcslr))
+tickOf d pulse =
+    settled (countedOf pulse d)
+    (noticeAt (d .request) pulse (d .lri) (elapsed (d .since)) (countedOf pulse d .pcslr))
 
 -- What `tick` hands back, in these terms.
 abbrev pub tickedAs : Ticked → Outcome Notice

@@ -41,15 +41,28 @@ use Rattle.line.specs.declared.Count.{Count}
 abbrev pub zeroCounters : ℕ → Counters
 zeroCounters rp = record { cpc = 0; pcslr = 0; rp = rp }
 
--- no tariff, burst, report period or earlier front, and counters 0
+-- no tariff, burst or report period, and counters 0
+abbrev pub idleLine : ℕ → ℕ → ℕ → ℕ → Line
+idleLine D S clock since =
+    record {
+      pulse = D;
+      spacing = S;
+      clock = clock;
+      since = since;
+      tariff = Idle;
+      phases = noPhases;
+      count = 0;
+      burst = NoBurstRuns;
+      counters = zeroCounters 0;
+    }
+
+-- with no earlier front its rules ask nothing
 unfoldable pub freshLine : ℕ → ℕ → ℕ → Line
-freshLine D S clock =
-    record { pulse = D; spacing = S; clock = clock; since = S; tariff = Idle; phases = noPhases; count = 0; burst = NoBurstRuns; counters = zeroCounters 0 }
+freshLine D S clock = idleLine D S clock S
 
 -- begins no pulse: 2S is above every interval that an em or a phase may have, and a burst pulse waits for S ticks
 unfoldable pub blankLine : Line
-blankLine =
-    record { pulse = 0; spacing = 4294967295; clock = 0; since = 0; tariff = Idle; phases = noPhases; count = 0; burst = NoBurstRuns; counters = zeroCounters 0 }
+blankLine = idleLine 0 4294967295 0 0
 
 -- where the configuration is refused, a blank line stands in the answer
 unfoldable pub makeOf : ℕ → ℕ → ℕ → Answered
@@ -63,23 +76,45 @@ makeOf D G clock =
 abbrev pub originWait : Line → ℕ
 originWait l = max 1 (l .spacing - l .since)
 
+-- the line at another clock, so many ticks after a front, with these signals and counters
+abbrev pub lineWith : Line → ℕ → ℕ → Tariff → Burst → Counters → Line
+lineWith l clock since t b n =
+    record {
+      pulse = l .pulse;
+      spacing = l .spacing;
+      clock = clock;
+      since = since;
+      tariff = t;
+      phases = l .phases;
+      count = l .count;
+      burst = b;
+      counters = n;
+    }
+
 abbrev pub withTariff : Line → Tariff → Line
-withTariff l t =
-    record { pulse = l .pulse; spacing = l .spacing; clock = l .clock; since = l .since; tariff = t; phases = l .phases; count = l .count; burst = l .burst; counters = l .counters }
+withTariff l t = lineWith l (l .clock) (l .since) t (l .burst) (l .counters)
 
 abbrev pub withBurst : Line → Burst → Line
-withBurst l b =
-    record { pulse = l .pulse; spacing = l .spacing; clock = l .clock; since = l .since; tariff = l .tariff; phases = l .phases; count = l .count; burst = b; counters = l .counters }
+withBurst l b = lineWith l (l .clock) (l .since) (l .tariff) b (l .counters)
 
 -- a fresh em zeroes the counters
 abbrev pub withEm : Line → Tariff → Line
-withEm l t =
-    record { pulse = l .pulse; spacing = l .spacing; clock = l .clock; since = l .since; tariff = t; phases = l .phases; count = l .count; burst = l .burst; counters = zeroCounters (l .counters .rp) }
+withEm l t = lineWith l (l .clock) (l .since) t (l .burst) (zeroCounters (l .counters .rp))
 
 -- the phases are in a table
 abbrev pub withTable : Line → PhaseTable → Line
 withTable l t =
-    record { pulse = l .pulse; spacing = l .spacing; clock = l .clock; since = l .since; tariff = phasedOf (t .phases) (originWait l); phases = t .phases; count = t .count; burst = l .burst; counters = l .counters }
+    record {
+      pulse = l .pulse;
+      spacing = l .spacing;
+      clock = l .clock;
+      since = l .since;
+      tariff = phasedOf (t .phases) (originWait l);
+      phases = t .phases;
+      count = t .count;
+      burst = l .burst;
+      counters = l .counters;
+    }
 
 unfoldable pub tariffChanged : TariffPart → PhaseTable → Line → Line
 tariffChanged NoTariff t l = withTariff l Idle
@@ -101,12 +136,16 @@ answeredBy (TurnedDown r) l changed k = record { line = l; verdict = Refused r }
 
 unfoldable pub describeOf : Line → TariffPart → Lists → BurstPart → Answered
 describeOf l t ls b =
-    answeredBy (ruling (descriptorCauses (l .spacing) (isEndless (l .tariff)) (isRunning (l .burst)) t ls b)) l (burstChanged b (tariffChanged t (tableWith (phasesOf ls)) l)) (cancelledBy b (owedBy (l .burst)))
+    answeredBy (ruling (descriptorCauses (l .spacing) (isEndless (l .tariff)) (isRunning (l .burst)) t ls b)) l
+    (burstChanged b (tariffChanged t (tableWith (phasesOf ls)) l))
+    (cancelledBy b (owedBy (l .burst)))
 
 -- the same with the phases in a table, as the code has them
 abbrev pub describedBy : Line → TariffPart → PhaseTable → BurstPart → Answered
 describedBy l t table b =
-    answeredBy (descriptorRuling (l .spacing) (isEndless (l .tariff)) (isRunning (l .burst)) t table b) l (burstChanged b (tariffChanged t table l)) (cancelledBy b (owedBy (l .burst)))
+    answeredBy (descriptorRuling (l .spacing) (isEndless (l .tariff)) (isRunning (l .burst)) t table b) l
+    (burstChanged b (tariffChanged t table l))
+    (cancelledBy b (owedBy (l .burst)))
 
 unfoldable pub hookOf : Line → Hook → Answered
 hookOf l Keep = record { line = l; verdict = Accepted 0 }
@@ -116,7 +155,8 @@ hookOf l Stop = record { line = withBurst (withTariff l Idle) NoBurstRuns; verdi
 
 abbrev pub withPeriod : Line → ℕ → Line
 withPeriod l n =
-    record { pulse = l .pulse; spacing = l .spacing; clock = l .clock; since = l .since; tariff = l .tariff; phases = l .phases; count = l .count; burst = l .burst; counters = record { cpc = l .counters .cpc; pcslr = l .counters .pcslr; rp = n } }
+    lineWith l (l .clock) (l .since) (l .tariff) (l .burst)
+    (record { cpc = l .counters .cpc; pcslr = l .counters .pcslr; rp = n })
 
 unfoldable pub periodOf : Line → ℕ → Answered
 periodOf l n = answeredBy (ruling (periodCauses n)) l (withPeriod l n) 0
@@ -138,8 +178,7 @@ countOf n =
 
 -- the clock is 32 bits wide
 abbrev pub movedBy : Line → ℕ → Tariff → Burst → Counters → Line
-movedBy l since t b n =
-    record { pulse = l .pulse; spacing = l .spacing; clock = (l .clock + 1) % 2 ^ 32; since = since; tariff = t; phases = l .phases; count = l .count; burst = b; counters = n }
+movedBy l since t b n = lineWith l ((l .clock + 1) % 2 ^ 32) since t b n
 
 -- what a tick tells of its tariff and its burst, its front and its report
 abbrev pub toldBy : Stepped → Aged → Front → Bool → Tick
@@ -148,9 +187,10 @@ toldBy t b front report = record { tariff = t .complete; burst = b .complete; fr
 -- a tick with a front, where t and b are the tariff and the burst one tick on, and burst is what the front leaves of b
 abbrev pub tickWithPulse : Line → Stepped → Aged → Burst → Front → Ticked
 tickWithPulse l t b burst front =
-    record { line = movedBy l 0 (t .tariff) burst (countOf (l .counters) .counters); tick = toldBy t b front (countOf (l .counters) .report) }
+    let n = countOf (l .counters) in
+    record { line = movedBy l 0 (t .tariff) burst (n .counters); tick = toldBy t b front (n .report) }
 
--- a tick with this front or none, where t, b and since are the tariff, the burst and the ticks since the last front one tick on
+-- a tick with this front or none, where t, b and since are one tick on: the tariff, the burst, the ticks since a front
 abbrev pub tickWithFront : Line → Stepped → Aged → ℕ → Front → Ticked
 tickWithFront l t b since None =
     record { line = movedBy l since (t .tariff) (b .burst) (l .counters); tick = toldBy t b None false }
@@ -163,7 +203,9 @@ tickBy l t b since = tickWithFront l t b since (frontAt (t .slot) (readyOf (l .s
 
 -- the clock goes up; what is over ends; a slot due now, or else a burst pulse, begins
 unfoldable pub tickOf : Line → Ticked
-tickOf l = tickBy l (stepOf (l .pulse) (l .phases) (l .count) (l .tariff)) (agedOf (l .pulse) (l .burst)) (heldMore (l .spacing) (l .since))
+tickOf l =
+    tickBy l (stepOf (l .pulse) (l .phases) (l .count) (l .tariff)) (agedOf (l .pulse) (l .burst))
+    (heldMore (l .spacing) (l .since))
 
 -- a pulse is on: fewer than D ticks since the last front
 unfoldable pub onOf : Line → Bool

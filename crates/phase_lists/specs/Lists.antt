@@ -20,7 +20,15 @@ pub record Lists : Type 0 where
 -- the phase that stands at place i of the lists
 abbrev pub phaseOf : Lists → ℕ → Phase
 phaseOf ls i =
-    record { pri = getD (ls .pri) i 0; pcx = getD (ls .pcx) i 0; repx = getD (ls .repx) i 0; pcn = getD (ls .pcn) i 0; repn = getD (ls .repn) i 0; ci = getD (ls .ci) i 0; pd = getD (ls .pd) i 0 }
+    record {
+      pri = getD (ls .pri) i 0;
+      pcx = getD (ls .pcx) i 0;
+      repx = getD (ls .repx) i 0;
+      pcn = getD (ls .pcn) i 0;
+      repn = getD (ls .repn) i 0;
+      ci = getD (ls .ci) i 0;
+      pd = getD (ls .pd) i 0;
+    }
 
 unfoldable pub firstPhases : Lists → ℕ → List Phase
 firstPhases ls zero = []
@@ -31,7 +39,8 @@ phasesOf ls = firstPhases ls (length (ls .pri))
 
 -- the seven lists in the order of the paper
 abbrev pub listsOf : List ℕ → List ℕ → List ℕ → List ℕ → List ℕ → List ℕ → List ℕ → Lists
-listsOf pri pcx repx pcn repn ci pd = record { pri = pri; pcx = pcx; repx = repx; pcn = pcn; repn = repn; ci = ci; pd = pd }
+listsOf pri pcx repx pcn repn ci pd =
+    record { pri = pri; pcx = pcx; repx = repx; pcn = pcn; repn = repn; ci = ci; pd = pd }
 
 abbrev pub noLists : Lists
 noLists = record { pri = []; pcx = []; repx = []; pcn = []; repn = []; ci = []; pd = [] }

@@ -22,7 +22,8 @@ unfolding wordsOf
 input = refl
 
 -- the largest number is one, and blanks and leading zeros do no harm
-pub sound : map lineOf ("rp 4294967295" ∷ "  rp   007 " ∷ "run 1000000" ∷ []) ≡ Period 4_294_967_295 ∷ Period 7 ∷ Run 1_000_000 ∷ []
+pub sound : map lineOf ("rp 4294967295" ∷ "  rp   007 " ∷ "run 1000000" ∷ [])
+    ≡ Period 4_294_967_295 ∷ Period 7 ∷ Run 1_000_000 ∷ []
 unfolding wordsOf
 sound = refl
 

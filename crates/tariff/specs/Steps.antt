@@ -62,12 +62,14 @@ afterPhased ps n i e l j p m = cond (ltb (j + 1) m) (Phased i e l (j + 1) (p .pr
 -- one tick: a slot due now and the tariff after it, or one tick less to wait
 unfoldable pub stepOf : ℕ → List Phase → ℕ → Tariff → Stepped
 stepOf D ps n Idle = stepped Idle None false
-stepOf D ps n (Endless P w) = cond (leb w 1) (stepped (Endless P P) Pulse false) (stepped (Endless P (w - 1)) None false)
+stepOf D ps n (Endless P w) =
+    cond (leb w 1) (stepped (Endless P P) Pulse false) (stepped (Endless P (w - 1)) None false)
 stepOf D ps n (Counted C P k w) =
     cond (leb w 1) (stepped (afterCounted D C P k) Pulse false) (stepped (Counted C P k (w - 1)) None false)
 stepOf D ps n (Phased i e l j w) =
     cond (leb w 1)
-    (stepped (afterPhased ps n i e l j (phaseAt ps i) (pulsesAt (phaseAt ps i) e)) (cond (eqb (pulsesAt (phaseAt ps i) e) 0) Empty Pulse) false)
+    (let m = pulsesAt (phaseAt ps i) e in
+    stepped (afterPhased ps n i e l j (phaseAt ps i) m) (cond (eqb m 0) Empty Pulse) false)
     (stepped (Phased i e l j (w - 1)) None false)
 stepOf D ps n (Ending w) = cond (leb w 1) (stepped Idle None true) (stepped (Ending (w - 1)) None false)
 
