@@ -72,13 +72,14 @@ impl Line {
     {
         let tariff = t.tariff;
         let burst = b.burst;
+        let begun = burst.begun();
         match front {
             Front::None => Ticked {
                 line: self.moved_by(since, tariff, burst, self.counters),
                 tick: told_by(t, b, front, false),
             },
             Front::Tariff => self.with_pulse(t, b, burst, front),
-            Front::Burst => self.with_pulse(t, b, burst.begun(), front),
+            Front::Burst => self.with_pulse(t, b, begun, front),
         }
     }
 
