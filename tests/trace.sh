@@ -1,12 +1,12 @@
 #!/bin/sh
 # docs/TRACE.md and the crates agree: each file, each definition, theorem and function and each must-fail edit that it
-# names is there, and it names every edit.
+# names is there, and it names every edit. The files and edits that docs/AUDIT.md lists are there, of the length it says.
 set -eu
 cd "$(dirname "$0")/.."
 wrong=0
 
 say() {
-    echo "docs/TRACE.md: $1"
+    echo "${page:-docs/TRACE.md}: $1"
     wrong=1
 }
 
@@ -88,6 +88,17 @@ done
 for edit in crates/*/must-fail/*.edit; do
     crate=${edit#crates/} name=$(basename "$edit" .edit)
     grep -qw "${crate%%/*}/$name" docs/TRACE.md || say "${crate%%/*}/$name is not named"
+done
+
+# rows of a file and its lines, and edits
+page=docs/AUDIT.md
+while read -r file lines; do
+    [ -f "$file" ] && [ "$(wc -l <"$file")" -eq "$lines" ] || say "$file is not there, or has not $lines lines"
+done <<END
+$(sed -n 's/^| \(crates[^ ]*\) | \([0-9]*\) |.*/\1 \2/p' $page)
+END
+for name in $(sed -n 's/^| .* | \([a-z_]*\/[a-z0-9_]*\) |$/\1/p' $page); do
+    [ -f "crates/${name%/*}/must-fail/${name#*/}.edit" ] || say "$name is no edit"
 done
 
 [ "$wrong" -eq 0 ] || exit 1

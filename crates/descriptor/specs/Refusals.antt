@@ -29,7 +29,7 @@ refusalNumber BurstRuns = 8
 
 -- a cause to refuse a call, and whether it applies
 pub data Cause : Type 0 where
-  cause : Refusal → Bool → Cause
+  cause : (r : Refusal) (applies : Bool) → Cause
 
 -- the lowest number that applies: causes stand in ascending order
 unfoldable pub ruling : List Cause → Ruling

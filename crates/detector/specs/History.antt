@@ -15,8 +15,8 @@ use Rattle.detector.specs.Notice.{Notice, nothing, report, event, notice
 
 -- A call with its answer.
 pub data Entry : Type 0 where
-  asked : Events → Reply → Entry
-  ticked : (pulse : Bool) → Notice → Entry
+  asked : (events : Events) (reply : Reply) → Entry
+  ticked : (pulse : Bool) (notice : Notice) → Entry
   audited : (lri : ℤ) (cpc pcslr : ℕ) → Entry
 
 -- The request that is on: the last that was accepted.

@@ -43,7 +43,7 @@ requestedBy (Both rp rit) = Off
 -- What a request is answered: ok, or no and the number of the cause.
 pub data Reply : Type 0 where
   ok : Reply
-  no : ℕ → Reply
+  no : (number : ℕ) → Reply
 
 -- The number of a refusal in the paper's table.
 abbrev pub detectorNumber : Refusal → ℕ

@@ -8,7 +8,7 @@ use Rattle.detector.specs.History.{Entry, asked, ticked, audited}
 
 -- A call on a detector.
 pub data Call : Type 0 where
-  ask : Events → Call
+  ask : (events : Events) → Call
   tick : (pulse : Bool) → Call
   audit : Call
 

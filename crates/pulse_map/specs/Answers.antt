@@ -9,8 +9,8 @@ use Rattle.pulse_map.specs.Refusals.{noTariff, noMap}
 
 -- a refusal with its number, or what is given
 pub data Result (A : Type 0) : Type 0 where
-  refused : ℕ → Result A
-  given : A → Result A
+  refused : (number : ℕ) → Result A
+  given : (value : A) → Result A
 
 -- a/b pulses over n elements
 abbrev pub parametersAnswer : ℕ → ℕ → ℕ → Result Components

@@ -12,7 +12,7 @@ use Rattle.printing.specs.Bytes.{bytes}
 -- what was read and the words that are left, or nothing
 pub data Parsed (A : Type 0) : Type 0 where
   failed : Parsed A
-  parsed : A → List (List ℕ) → Parsed A
+  parsed : (value : A) (rest : List (List ℕ)) → Parsed A
 
 -- a reader of an A
 abbrev pub Reader : Type 0 → Type 0
