@@ -1,4 +1,4 @@
--- The files of this folder: rules on plain numbers, the state level, the history level, and the claims that join the two.
+-- The files of this folder: rules on plain numbers, the state level, the history level, and the claims that join both.
 pub mod Values
 pub mod Request
 pub mod Notice

@@ -26,8 +26,8 @@ abbrev pub prNotice : Bool → ℕ → ℕ → Notice
 prNotice true rp pcslr = cond (eqb pcslr rp) report nothing
 prNotice false rp pcslr = nothing
 
--- Under ric a pulse at lri −1 gives event (0, pcslr); at lri 0, event (e, pcslr); at lri above 0, only if e < lri − rit,
--- event (e, pcslr).
+-- Under ric a pulse at lri −1 gives event (0, pcslr); at lri 0, event (e, pcslr); at lri above 0, only if
+-- e < lri − rit, event (e, pcslr).
 abbrev pub pulseNotice : (lri : ℤ) (rit e pcslr : ℕ) → Notice
 pulseNotice (negsuc n) rit e pcslr = event 0 pcslr
 pulseNotice (pos zero) rit e pcslr = event e pcslr

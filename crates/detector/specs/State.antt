@@ -22,8 +22,8 @@ pub record Outcome (A : Type 0) : Type 0 where
 abbrev pub fresh : Detector
 fresh = record { request = Off; lri = negsuc 0; cpc = 0; pcslr = 0; since = topTicks }
 
--- The same request again changes nothing; another non-off one zeroes the counters and sets lri to −1; off sets lri to −1
--- and leaves the counters.
+-- The same request again changes nothing; another non-off one zeroes the counters and sets lri to −1; off sets lri
+-- to −1 and leaves the counters.
 abbrev pub changedBy : (same enables : Bool) → Request → Detector → Detector
 changedBy true enables q d = d
 changedBy false true q d = record { request = q; lri = negsuc 0; cpc = 0; pcslr = 0; since = d .since }

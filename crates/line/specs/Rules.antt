@@ -1,4 +1,4 @@
--- Rules of a line that the paper gives in a sentence each: counts, reports, what a tick begins, what a descriptor cancels.
+-- Rules of a line that the paper gives in a sentence each: counts, reports, what a tick begins, what is cancelled.
 use mathlib.Core.Bool.{Bool, cond, _&&_}
 use Prim.Native.Nat.{ℕ, _+_, min}
 use lib.Dec.{ltb, eqb}

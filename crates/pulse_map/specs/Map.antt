@@ -21,8 +21,8 @@ unfoldable pub nGroups : ℕ → ℕ → ℕ → List Entry
 nGroups g zero n = replicate n N
 nGroups g (suc x) n = X ∷ replicate (min g n) N ++ nGroups g x (n - g)
 
--- If either is 0 the map is all of the other. If repx ≥ repn > 0, g is repx/repn rounded half up; if repn > repx > 0, g is
--- repn/repx rounded down.
+-- If either is 0 the map is all of the other. If repx ≥ repn > 0, g is repx/repn rounded half up; if repn > repx > 0,
+-- g is repn/repx rounded down.
 unfoldable pub mapOf : ℕ → ℕ → List Entry
 mapOf repx zero = replicate repx X
 mapOf zero (suc n) = replicate (suc n) N
