@@ -1,37 +1,48 @@
 -- A burst on a line: what is owed, one tick on, whether its next pulse may start, and after that pulse's front.
-use mathlib.Core.Bool.{Bool, true, false, cond, _&&_}
+use mathlib.Core.Bool.{Bool, true, false, cond, not, _&&_}
 use Prim.Native.Nat.{ℕ, _+_, _-_, min}
 use lib.Dec.{leb, ltb, eqb}
-use Rattle.tariff.specs.Steps.{roomOf}
-use Rattle.tariff.specs.declared.Tariff.{Tariff}
 use Rattle.burst.specs.declared.Burst.{Burst}
-use Rattle.burst.specs.declared.Burst.the-variants.{Idle, Running}
 use Rattle.burst.specs.declared.Aged.{Aged}
 
-abbrev pub owedBy : Burst → ℕ
-owedBy Idle = 0
-owedBy (Running m B k) = m
+abbrev pub burstWith : ℕ → ℕ → ℕ → Burst
+burstWith owed distance since = record { owed = owed; distance = distance; since = since }
+
+-- none runs
+abbrev pub noBurst : Burst
+noBurst = burstWith 0 0 0
+
+-- a burst of n pulses starts with its distance B passed
+abbrev pub startOf : ℕ → ℕ → Burst
+startOf n B = burstWith n B B
 
 abbrev pub isRunning : Burst → Bool
-isRunning Idle = false
-isRunning (Running m B k) = true
+isRunning b = ltb 0 (b .distance)
 
 -- one tick more, held at n
 abbrev pub heldMore : ℕ → ℕ → ℕ
 heldMore n k = min n (k + 1)
 
--- a burst of which no pulse is owed is complete D ticks after its last front
-unfoldable pub agedOf : ℕ → Burst → Aged
-agedOf D Idle = record { burst = Idle; complete = false }
-agedOf D (Running m B k) =
-    cond (eqb m 0 && eqb (heldMore B k) D) (record { burst = Idle; complete = true })
-    (record { burst = Running m B (heldMore B k); complete = false })
+-- a tick later, while it runs on
+abbrev pub olderOf : Burst → Burst
+olderOf b = burstWith (b .owed) (b .distance) (heldMore (b .distance) (b .since))
 
--- a burst pulse may start: one is owed, the distances have passed, and the next slot is far enough
-unfoldable pub readyOf : ℕ → ℕ → Burst → Tariff → Bool
-readyOf S since Idle t = false
-readyOf S since (Running m B k) t = (ltb 0 m && leb B k) && (leb S since && roomOf S t)
+-- a burst of which no pulse is owed is complete D ticks after its last front
+unfoldable pub completesOf : ℕ → Burst → Bool
+completesOf D b = isRunning b && (eqb (b .owed) 0 && eqb (heldMore (b .distance) (b .since)) D)
+
+unfoldable pub agedOf : ℕ → Burst → Aged
+agedOf D b = record { burst = cond (completesOf D b) noBurst (olderOf b); complete = completesOf D b }
+
+-- a pulse is owed, and its distance has passed
+abbrev pub isDue : Burst → Bool
+isDue b = ltb 0 (b .owed) && leb (b .distance) (b .since)
+
+-- one tick on nothing of it happens, where passed says whether S ticks will have passed since the last front: no burst
+-- runs, or it is not complete and its next pulse may not start
+unfoldable pub quietOf : ℕ → Bool → Burst → Bool
+quietOf D passed b =
+    cond (isRunning b) (not (completesOf D b) && not (isDue (olderOf b) && passed)) (eqb (b .owed) 0)
 
 abbrev pub begunOf : Burst → Burst
-begunOf Idle = Idle
-begunOf (Running m B k) = Running (m - 1) B 0
+begunOf b = burstWith (b .owed - 1) (b .distance) 0

@@ -1,17 +1,14 @@
 // A burst: what is owed, one tick on, whether its next pulse may start, and after that pulse's front.
 ghost use mathlib.Core.Path.{_≡_};
 ghost use Prim.Native.Nat.{_-_};
-ghost use Rattle.burst.specs.Bursts.{heldMore, owedBy, isRunning, agedOf, readyOf, begunOf};
-use tariff::Tariff;
+ghost use Rattle.burst.specs.Bursts.{noBurst, startOf, isRunning, heldMore, olderOf, completesOf, agedOf, isDue, quietOf, begunOf};
 
-// The pulses owed, the least distance of its fronts, and the ticks since its last front, held at that distance.
-pub enum Burst {
-    Idle,
-    Running {
-        owed: u32,
-        distance: u32,
-        since: u32,
-    },
+// The pulses owed, the least distance of its fronts, and the ticks since its last front, held at that distance. Where the
+// distance is 0 none runs.
+pub struct Burst {
+    pub owed: u32,
+    pub distance: u32,
+    pub since: u32,
 }
 
 // A burst one tick on, and whether it is complete.
@@ -35,99 +32,95 @@ fn one_less(n: u32) -> u32
 }
 
 impl Burst {
-    // The pulses that have not begun.
-    pub fn owed(self) -> u32
-        ensures { λ r. ⌜ r ≡ owedBy self ⌝ }
+    // None runs.
+    pub fn none() -> Burst
+        ensures { λ r. ⌜ r ≡ noBurst ⌝ }
     {
-        match self {
-            Burst::Idle => 0,
-            Burst::Running {
-                owed,
-                distance: _,
-                since: _,
-            } => owed,
+        Burst {
+            owed: 0,
+            distance: 0,
+            since: 0,
+        }
+    }
+
+    // A burst of so many pulses, whose distance has passed.
+    pub fn start(pulses: u32, distance: u32) -> Burst
+        ensures { λ r. ⌜ r ≡ startOf pulses distance ⌝ }
+    {
+        Burst {
+            owed: pulses,
+            distance,
+            since: distance,
         }
     }
 
     pub fn is_running(self) -> bool
         ensures { λ r. ⌜ r ≡ isRunning self ⌝ }
     {
-        match self {
-            Burst::Idle => false,
-            Burst::Running {
-                owed: _,
-                distance: _,
-                since: _,
-            } => true,
+        0 < self.distance
+    }
+
+    // One tick on, while it runs on.
+    pub fn older(self) -> Burst
+        ensures { λ r. ⌜ r ≡ olderOf self ⌝ }
+    {
+        Burst {
+            since: held_more(self.distance, self.since),
+            ..self
         }
     }
 
-    // One tick on. With no pulse owed it is complete as its last pulse ends.
+    // Whether it is complete one tick on: no pulse is owed, and the last one ends.
+    pub fn completes(self, pulse: u32) -> bool
+        ensures { λ r. ⌜ r ≡ completesOf pulse self ⌝ }
+    {
+        let now = held_more(self.distance, self.since);
+        (0 < self.distance) & ((self.owed == 0) & (now == pulse))
+    }
+
+    // One tick on.
     pub fn aged(self, pulse: u32) -> Aged
         ensures { λ r. ⌜ r ≡ agedOf pulse self ⌝ }
     {
-        match self {
-            Burst::Idle => Aged {
-                burst: self,
+        if self.completes(pulse) {
+            Aged {
+                burst: Burst::none(),
+                complete: true,
+            }
+        } else {
+            Aged {
+                burst: self.older(),
                 complete: false,
-            },
-            Burst::Running {
-                owed,
-                distance,
-                since,
-            } => {
-                let now = held_more(distance, since);
-                if (owed == 0) & (now == pulse) {
-                    Aged {
-                        burst: Burst::Idle,
-                        complete: true,
-                    }
-                } else {
-                    Aged {
-                        burst: Burst::Running {
-                            owed,
-                            distance,
-                            since: now,
-                        },
-                        complete: false,
-                    }
-                }
             }
         }
     }
 
-    // Whether a pulse may start: one is owed, both distances have passed, and the next slot is far enough.
-    pub fn is_ready(self, spacing: u32, elapsed: u32, tariff: Tariff) -> bool
-        ensures { λ r. ⌜ r ≡ readyOf spacing elapsed self tariff ⌝ }
+    // Whether a pulse is owed, and its distance has passed.
+    pub fn is_due(self) -> bool
+        ensures { λ r. ⌜ r ≡ isDue self ⌝ }
     {
-        match self {
-            Burst::Idle => false,
-            Burst::Running {
-                owed,
-                distance,
-                since,
-            } => {
-                let due = (0 < owed) & (distance <= since);
-                due & ((spacing <= elapsed) & tariff.room(spacing))
-            }
+        (0 < self.owed) & (self.distance <= self.since)
+    }
+
+    // Whether nothing of it happens one tick on, where `passed` says whether S ticks will have passed since the last front.
+    pub fn is_quiet(self, pulse: u32, passed: bool) -> bool
+        ensures { λ r. ⌜ r ≡ quietOf pulse passed self ⌝ }
+    {
+        if self.is_running() {
+            let older = self.older();
+            return !self.completes(pulse) & !(older.is_due() & passed);
         }
+        self.owed == 0
     }
 
     // After a front of it.
     pub fn begun(self) -> Burst
         ensures { λ r. ⌜ r ≡ begunOf self ⌝ }
     {
-        match self {
-            Burst::Idle => self,
-            Burst::Running {
-                owed,
-                distance,
-                since: _,
-            } => Burst::Running {
-                owed: one_less(owed),
-                distance,
-                since: 0,
-            },
+        Burst {
+            owed: one_less(self.owed),
+            distance: self.distance,
+            since: 0,
         }
     }
 }

@@ -12,7 +12,7 @@ use Rattle.answers.specs.declared.Front.{Front}
 use Rattle.answers.specs.declared.Front.the-variants.{None, Tariff as TariffFront, Burst as BurstFront}
 use Rattle.descriptor.specs.declared.BurstPart.the-variants.{Start}
 use Rattle.burst.specs.declared.Burst.{Burst}
-use Rattle.burst.specs.declared.Burst.the-variants.{Running as Owing}
+use Rattle.burst.specs.Bursts.{burstWith}
 use Rattle.line.specs.declared.Line.{Line}
 use Rattle.demand.specs.Calls.{Call, Answer, Entry}
 use Rattle.demand.specs.History.{granted, frontOf, sum, ticks, begun, burstIn, Started, started, never}
@@ -32,10 +32,10 @@ pub record Left (S : ℕ) (l : Line) (n K j r done : ℕ) : Type 0 where
   pub distance : ℕ
   pub own : ℕ
   pub first : ℕ
-  pub owing : l .burst ≡ Owing (suc others) distance own
+  pub owing : l .state .burst ≡ burstWith (suc others) distance own
   pub wide : S ≤ distance
   pub count : suc others + done ≡ n
-  pub within : Within S (l .since) distance own (nextOf (l .tariff)) first
+  pub within : Within S (l .state .since) distance own (nextOf (l .state .tariff) (l .state .wait)) first
   pub low : first + others * (distance + 2 * S) + j ≤ K + r * (2 * S)
 
 one-fewer : (m G : ℕ) → 1 ≤ m → m * G ≡ (m - 1) * G + G
@@ -43,7 +43,7 @@ one-fewer zero G l = absurd (omega arith)
 one-fewer (suc m) G l = let e : suc m - 1 ≡ m = omega arith in rw e (omega arith)
 
 module _ (S : ℕ) (z : 1 ≤ S) (n K j r done : ℕ) (l l′ : Line) (e : Entry) where
-  kept : (x : Left S l n K j r done) → Effect S (l .since) (nextOf (l .tariff)) (x .others) (x .distance) (x .own) e l′ → isNone (granted e .burst) ≡ 0 → isBurstFront (frontOf e) + done < n →
+  kept : (x : Left S l n K j r done) → Effect S (l .state .since) (nextOf (l .state .tariff) (l .state .wait)) (x .others) (x .distance) (x .own) e l′ → isNone (granted e .burst) ≡ 0 → isBurstFront (frontOf e) + done < n →
       Left S l′ n K (cond (granted e .tick) (j + 1) j) (isFresh (granted e .tariff) + r) (isBurstFront (frontOf e) + done)
   kept x (cancels c) a b = absurd (omega arith)
   kept x (stays t f w v u) a b =
@@ -57,7 +57,7 @@ module _ (S : ℕ) (z : 1 ≤ S) (n K j r done : ℕ) (l l′ : Line) (e : Entry
         wide = x .wide;
         owing = u;
         count = rw f (omega (arith, x .count));
-        within = rw (w, v) (stopped S z (l .since) (x .distance) (x .own) (nextOf (l .tariff)) (x .first) (x .within));
+        within = rw (w, v) (stopped S z (l .state .since) (x .distance) (x .own) (nextOf (l .state .tariff) (l .state .wait)) (x .first) (x .within));
         low = rw t (omega (arith, x .low));
       }
   kept x (begins t f fresh w u) a b =
@@ -69,11 +69,11 @@ module _ (S : ℕ) (z : 1 ≤ S) (n K j r done : ℕ) (l l′ : Line) (e : Entry
         wide = x .wide;
         owing = u;
         count = rw f (omega (arith, x .count));
-        within = rw w (replaced S z (l .since) (x .distance) (x .own) (nextOf (l .tariff)) (x .first) (nextOf (l′ .tariff)) (x .within));
+        within = rw w (replaced S z (l .state .since) (x .distance) (x .own) (nextOf (l .state .tariff) (l .state .wait)) (x .first) (nextOf (l′ .state .tariff) (l′ .state .wait)) (x .within));
         low = rw (t, fresh) (omega (arith, x .low));
       }
   kept x (waiting t f o y w v u) a b =
-      let some = positive S z (l .since) (x .distance) (x .own) (nextOf (l .tariff)) (x .first) (x .within) in
+      let some = positive S z (l .state .since) (x .distance) (x .own) (nextOf (l .state .tariff) (l .state .wait)) (x .first) (x .within) in
       record {
         others = x .others;
         distance = x .distance;
@@ -82,11 +82,11 @@ module _ (S : ℕ) (z : 1 ≤ S) (n K j r done : ℕ) (l l′ : Line) (e : Entry
         wide = x .wide;
         owing = u;
         count = rw f (omega (arith, x .count));
-        within = rw (w, v) (waits S z (l .since) (x .distance) (x .own) (nextOf (l .tariff)) (x .first) o y (x .within));
+        within = rw (w, v) (waits S z (l .state .since) (x .distance) (x .own) (nextOf (l .state .tariff) (l .state .wait)) (x .first) o y (x .within));
         low = rw t (omega (arith, x .low));
       }
   kept x (empty-due t f d far w u) a b =
-      let some = positive S z (l .since) (x .distance) (x .own) (nextOf (l .tariff)) (x .first) (x .within) in
+      let some = positive S z (l .state .since) (x .distance) (x .own) (nextOf (l .state .tariff) (l .state .wait)) (x .first) (x .within) in
       record {
         others = x .others;
         distance = x .distance;
@@ -95,11 +95,11 @@ module _ (S : ℕ) (z : 1 ≤ S) (n K j r done : ℕ) (l l′ : Line) (e : Entry
         wide = x .wide;
         owing = u;
         count = rw f (omega (arith, x .count));
-        within = rw w (empty-slot S z (l .since) (x .distance) (x .own) (nextOf (l .tariff)) (x .first) (nextOf (l′ .tariff)) far d (x .within));
+        within = rw w (empty-slot S z (l .state .since) (x .distance) (x .own) (nextOf (l .state .tariff) (l .state .wait)) (x .first) (nextOf (l′ .state .tariff) (l′ .state .wait)) far d (x .within));
         low = rw t (omega (arith, x .low));
       }
   kept x (pulse-due t f d far w u) a b =
-      let some = positive S z (l .since) (x .distance) (x .own) (nextOf (l .tariff)) (x .first) (x .within) in
+      let some = positive S z (l .state .since) (x .distance) (x .own) (nextOf (l .state .tariff) (l .state .wait)) (x .first) (x .within) in
       record {
         others = x .others;
         distance = x .distance;
@@ -108,11 +108,11 @@ module _ (S : ℕ) (z : 1 ≤ S) (n K j r done : ℕ) (l l′ : Line) (e : Entry
         wide = x .wide;
         owing = u;
         count = rw f (omega (arith, x .count));
-        within = rw w (pulse-slot S z (l .since) (x .distance) (x .own) (nextOf (l .tariff)) (x .first) (nextOf (l′ .tariff)) far d (x .within));
+        within = rw w (pulse-slot S z (l .state .since) (x .distance) (x .own) (nextOf (l .state .tariff) (l .state .wait)) (x .first) (nextOf (l′ .state .tariff) (l′ .state .wait)) far d (x .within));
         low = rw t (omega (arith, x .low));
       }
   kept x (burst-due t f w u) a b =
-      let some = positive S z (l .since) (x .distance) (x .own) (nextOf (l .tariff)) (x .first) (x .within) in
+      let some = positive S z (l .state .since) (x .distance) (x .own) (nextOf (l .state .tariff) (l .state .wait)) (x .first) (x .within) in
       let more = burst-more f b (x .count) in
       record {
         others = x .others - 1;
@@ -120,7 +120,7 @@ module _ (S : ℕ) (z : 1 ≤ S) (n K j r done : ℕ) (l l′ : Line) (e : Entry
         own = 0;
         first = x .distance + 2 * S;
         wide = x .wide;
-        owing = u ∙ ap (λ (m : ℕ). Owing m (x .distance) 0) (omega arith);
+        owing = u ∙ ap (λ (m : ℕ). burstWith m (x .distance) 0) (omega arith);
         count = rw f (omega arith);
         within = rw w (late (x .distance) (omega (arith, x .wide)) (omega arith));
         low = rw t (omega (arith, x .low, one-fewer (x .others) (x .distance + 2 * S) more));
@@ -130,10 +130,10 @@ module _ (S : ℕ) (z : 1 ≤ S) (n K j r done : ℕ) (l l′ : Line) (e : Entry
       burst-more f b c = let d = rw f at b in omega arith
 
 -- an accepted start of n pulses leaves them all owed
-burst-started : (D S i n P : ℕ) (b : Started) (u : Burst) → b ≡ started n P 0 never → BurstAt D S i b u → u ≡ Owing n (max P S) (max P S)
+burst-started : (D S i n P : ℕ) (b : Started) (u : Burst) → b ≡ started n P 0 never → BurstAt D S i b u → u ≡ burstWith n (max P S) (max P S)
 burst-started D S i n P b u e x = by u (rw e at x)
   where
-    by : (u : Burst) → BurstAt D S i (started n P 0 never) u → u ≡ Owing n (max P S) (max P S)
+    by : (u : Burst) → BurstAt D S i (started n P 0 never) u → u ≡ burstWith n (max P S) (max P S)
     by u (runs {m = m} {s = s} p q y on) =
         let k : m ≡ n = omega arith in
         rw (k, q)
@@ -147,7 +147,7 @@ module _ (D S clock : ℕ) (cfg : Config D S) (small : clock < 2 ^ 32) where
       isBurstFront (frontOf (entryOf c a l′)) + done < n → Left S l n K j r done →
       Left S l′ n K (cond (granted (entryOf c a l′) .tick) (j + 1) j) (isFresh (granted (entryOf c a l′) .tariff) + r) (isBurstFront (frontOf (entryOf c a l′)) + done)
   keeps h {l} (line-at e before ag g x y) n K j r done c a l′ q kept-on few left =
-      kept S some n K j r done l l′ (entryOf c a l′) left (rw q at (effect l cfg g (left .others) (left .distance) (left .own) (left .owing) c)) kept-on few
+      kept S some n K j r done l l′ (entryOf c a l′) left (rw q at (effect l cfg g (left .others) (left .distance) (left .own) (left .owing) (left .wide) c)) kept-on few
 
   -- the start itself
   begun-line : {l : Line} (n P : ℕ) (before : List Entry) (e : Entry) → Coupled D S clock (e ∷ before) l → granted e .burst ≡ Start (suc n) P → Left S l (suc n) (3 * S + n * (max P S + 2 * S)) 0 0 0
@@ -174,7 +174,7 @@ module _ (D S clock : ℕ) (cfg : Config D S) (small : clock < 2 ^ 32) where
   not-late zero P rest before e r is kept-on few = absurd (omega arith)
   not-late {l} (suc n) P rest before e r is kept-on few =
       let x = left n P rest before e r is kept-on few in
-      omega (arith, x .low, positive S some (l .since) (x .distance) (x .own) (nextOf (l .tariff)) (x .first) (x .within), sizes n (max P S))
+      omega (arith, x .low, positive S some (l .state .since) (x .distance) (x .own) (nextOf (l .state .tariff) (l .state .wait)) (x .first) (x .within), sizes n (max P S))
 
 -- ---- the last pulse in the list
 -- until it begins, all entries count

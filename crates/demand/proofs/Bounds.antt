@@ -11,7 +11,7 @@ use lib.Dec.{leb, eqb}
 use Rattle.answers.specs.declared.Front.{Front}
 use Rattle.answers.specs.declared.Front.the-variants.{None, Tariff as TariffFront, Burst as BurstFront}
 use Rattle.tariff.specs.Rules.{within}
-use Rattle.tariff.specs.Steps.{stepOf, isEndless}
+use Rattle.tariff.specs.Steps.{stepOf, roomOf, isEndless}
 use Rattle.tariff.specs.declared.Phase.{Phase}
 use Rattle.tariff.specs.declared.Stepped.{Stepped}
 use Rattle.phase_lists.specs.Lists.{Lists, phasesOf}
@@ -24,13 +24,13 @@ use Rattle.descriptor.specs.declared.BurstPart.the-variants.{None as NoBurst, K
 use Rattle.descriptor.specs.declared.Ruling.{Ruling}
 use Rattle.descriptor.specs.declared.Ruling.the-variants.{Allowed, TurnedDown}
 use Rattle.descriptor.specs.declared.Hook.the-variants.{Keep, Stop}
-use Rattle.burst.specs.Bursts.{owedBy, isRunning, heldMore, agedOf, begunOf, readyOf}
+use Rattle.burst.specs.Bursts.{noBurst, isRunning, heldMore, olderOf, completesOf, agedOf, isDue, begunOf}
 use Rattle.burst.specs.declared.Burst.{Burst}
-use Rattle.burst.specs.declared.Burst.the-variants.{Idle, Running as Owing}
 use Rattle.burst.specs.declared.Aged.{Aged}
 use Rattle.line.specs.Rules.{oneMore, reportDue, cancelledBy, frontAt}
-use Rattle.line.specs.Lines.{freshLine, describeOf, hookOf, periodOf, noPeriodOf, auditOf, answeredBy, tariffChanged, burstChanged, withPeriod, countOf, tickWithFront, tickOf}
+use Rattle.line.specs.Lines.{freshLine, describeOf, hookOf, periodOf, noPeriodOf, auditOf, answeredBy, tariffChanged, burstChanged, withPeriod, countOf, countBy, sinceAfter, burstAfter, moveOf, tickOf}
 use Rattle.line.specs.declared.Counters.{Counters}
+use Rattle.line.specs.declared.State.{State}
 use Rattle.line.specs.declared.Line.{Line}
 use Rattle.demand.specs.Calls.{Call, describe, hook, period, noPeriod, audit, tick, Entry}
 use Rattle.demand.specs.Machine.{rulingOf, Outcome, outcome, answered, step}
@@ -38,34 +38,37 @@ use Rattle.descriptor.proofs.Causes.{none-first, none-after}
 use Rattle.demand.proofs.Coupled.{Config}
 use Rattle.demand.proofs.Run.{Run, begin, more}
 
-pub record Owes (m B k : ℕ) : Type 0 where
-  pub owed : m ≤ 65535
-  pub distance : B ≤ 60000
-  pub since : k ≤ B
-
-abbrev pub BurstBounded : Burst → Type 0
-BurstBounded Idle = Unit {0}
-BurstBounded (Owing m B k) = Owes m B k
+pub record BurstBounded (b : Burst) : Type 0 where
+  pub owed : b .owed ≤ 65535
+  pub distance : b .distance ≤ 60000
+  pub since : b .since ≤ b .distance
 
 pub record CountersBounded (n : Counters) : Type 0 where
   pub cpc : n .cpc ≤ 4294967295
   pub pcslr : n .pcslr ≤ 4294967295
 
+pub record StateBounded (S : ℕ) (s : State) : Type 0 where
+  pub clock : s .clock < 2 ^ 32
+  pub since : s .since ≤ S
+  pub burst : BurstBounded (s .burst)
+  pub counters : CountersBounded (s .counters)
+
 pub record Bounded (l : Line) : Type 0 where
   pub spacing : l .spacing ≤ 1000
-  pub clock : l .clock < 2 ^ 32
-  pub since : l .since ≤ l .spacing
-  pub burst : BurstBounded (l .burst)
-  pub counters : CountersBounded (l .counters)
+  pub state : StateBounded (l .spacing) (l .state)
+
+no-burst : BurstBounded noBurst
+no-burst = omega arith
 
 -- ---- commands
 tariff-bounded : (t : TariffPart) (ps : List Phase) (l : Line) → Bounded l → Bounded (tariffChanged t (tableWith ps) l)
 unfolding tariffChanged
-tariff-bounded NoTariff ps l x = record { spacing = x .spacing; clock = x .clock; since = x .since; burst = x .burst; counters = x .counters }
+tariff-bounded NoTariff ps l x = record { spacing = x .spacing; state = record { clock = x .state .clock; since = x .state .since; burst = x .state .burst; counters = x .state .counters } }
 tariff-bounded KeepTariff ps l x = x
-tariff-bounded (Rate P) ps l x = record { spacing = x .spacing; clock = x .clock; since = x .since; burst = x .burst; counters = x .counters }
-tariff-bounded (Em C P) ps l x = record { spacing = x .spacing; clock = x .clock; since = x .since; burst = x .burst; counters = record { cpc = omega arith; pcslr = omega arith } }
-tariff-bounded Phased ps l x = record { spacing = x .spacing; clock = x .clock; since = x .since; burst = x .burst; counters = x .counters }
+tariff-bounded (Rate P) ps l x = record { spacing = x .spacing; state = record { clock = x .state .clock; since = x .state .since; burst = x .state .burst; counters = x .state .counters } }
+tariff-bounded (Em C P) ps l x =
+    record { spacing = x .spacing; state = record { clock = x .state .clock; since = x .state .since; burst = x .state .burst; counters = record { cpc = omega arith; pcslr = omega arith } } }
+tariff-bounded Phased ps l x = record { spacing = x .spacing; state = record { clock = x .state .clock; since = x .state .since; burst = x .state .burst; counters = x .state .counters } }
 
 -- a start that is allowed is within its ends
 abbrev Allows : BurstPart → Type 0
@@ -82,59 +85,100 @@ allows S e b (Start n P) h =
 
 burst-bounded : (p : BurstPart) (l : Line) → Allows p → Bounded l → Bounded (burstChanged p l)
 unfolding burstChanged
-burst-bounded NoBurst l h x = record { spacing = x .spacing; clock = x .clock; since = x .since; burst = tt; counters = x .counters }
+burst-bounded NoBurst l h x = record { spacing = x .spacing; state = record { clock = x .state .clock; since = x .state .since; burst = no-burst; counters = x .state .counters } }
 burst-bounded KeepBurst l h x = x
 burst-bounded (Start n P) l h x =
-    record { spacing = x .spacing; clock = x .clock; since = x .since; burst = record { owed = h .0; distance = omega (arith, h .1, x .spacing); since = omega arith }; counters = x .counters }
+    record {
+      spacing = x .spacing;
+      state =
+          record {
+            clock = x .state .clock;
+            since = x .state .since;
+            burst = record { owed = h .0; distance = omega (arith, h .1, x .spacing); since = omega arith };
+            counters = x .state .counters;
+          };
+    }
 
 abbrev OutcomeBounded : Outcome → Type 0
 OutcomeBounded (outcome a l) = Bounded l
 
 described : (t : TariffPart) (ls : Lists) (p : BurstPart) (l : Line) (u : Ruling) → rulingOf l (describe t ls p) ≡ u → Bounded l →
-    OutcomeBounded (answered (answeredBy u l (burstChanged p (tariffChanged t (tableWith (phasesOf ls)) l)) (cancelledBy p (owedBy (l .burst)))))
+    OutcomeBounded (answered (answeredBy u l (burstChanged p (tariffChanged t (tableWith (phasesOf ls)) l)) (cancelledBy p (l .state .burst .owed))))
 described t ls p l (TurnedDown r) e x = x
 described t ls p l Allowed e x =
-    let free = none-after (tariffCauses (l .spacing) (isEndless (l .tariff)) (isRunning (l .burst)) t ls) (burstCauses (l .spacing) (isEndless (l .tariff)) (isRunning (l .burst)) p) e in
-    burst-bounded p (tariffChanged t (tableWith (phasesOf ls)) l) (allows (l .spacing) (isEndless (l .tariff)) (isRunning (l .burst)) p (free .1)) (tariff-bounded t (phasesOf ls) l x)
+    let endless = isEndless (l .state .tariff) in
+    let running = isRunning (l .state .burst) in
+    let free = none-after (tariffCauses (l .spacing) endless running t ls) (burstCauses (l .spacing) endless running p) e in
+    burst-bounded p (tariffChanged t (tableWith (phasesOf ls)) l) (allows (l .spacing) endless running p (free .1)) (tariff-bounded t (phasesOf ls) l x)
 
 ruled : (n : ℕ) (l : Line) (u : Ruling) → Bounded l → OutcomeBounded (answered (answeredBy u l (withPeriod l n) 0))
-ruled n l Allowed x = record { spacing = x .spacing; clock = x .clock; since = x .since; burst = x .burst; counters = record { cpc = x .counters .cpc; pcslr = x .counters .pcslr } }
+ruled n l Allowed x =
+    record {
+      spacing = x .spacing;
+      state =
+          record {
+            clock = x .state .clock;
+            since = x .state .since;
+            burst = x .state .burst;
+            counters = record { cpc = x .state .counters .cpc; pcslr = x .state .counters .pcslr };
+          };
+    }
 ruled n l (TurnedDown r) x = x
 
 -- ---- a tick
 aged-bounded : (D : ℕ) (b : Burst) → BurstBounded b → BurstBounded (agedOf D b .burst)
 unfolding agedOf
-aged-bounded D Idle x = tt
-aged-bounded D (Owing m B k) x =
-    cases (eqb m 0 && eqb (heldMore B k) D) (λ e. rw e tt) (λ e. rw e (record { owed = x .owed; distance = x .distance; since = omega arith }))
+aged-bounded D b x =
+    cases (completesOf D b) (λ e. rw e no-burst) (λ e. rw e (record { owed = x .owed; distance = x .distance; since = omega arith }))
 
-begun-bounded : (b : Burst) → BurstBounded b → BurstBounded (begunOf b)
-begun-bounded Idle x = tt
-begun-bounded (Owing m B k) x = record { owed = omega (arith, x .owed); distance = x .distance; since = omega arith }
+after-bounded : (f : Front) (b : Burst) → BurstBounded b → BurstBounded (burstAfter f b)
+unfolding burstAfter
+after-bounded None b x = x
+after-bounded TariffFront b x = x
+after-bounded BurstFront b x = record { owed = omega (arith, x .owed); distance = x .distance; since = omega arith }
 
-count-bounded : (n : Counters) → CountersBounded n → CountersBounded (countOf n .counters)
+pub since-bounded : (S since : ℕ) (f : Front) → since ≤ S → sinceAfter f since ≤ S
+unfolding sinceAfter
+since-bounded S since None l = l
+since-bounded S since TariffFront l = omega arith
+since-bounded S since BurstFront l = omega arith
+
+count-bounded : (n : Counters) → CountersBounded (countOf n .counters)
 unfolding countOf
-count-bounded n x =
+count-bounded n =
     cases (reportDue (n .rp) (oneMore (n .pcslr))) (λ e. rw e (record { cpc = omega arith; pcslr = omega arith })) (λ e. rw e (record { cpc = omega arith; pcslr = omega arith }))
 
-front-bounded : (l : Line) (t : Stepped) (b : Aged) (f : Front) → Bounded l → BurstBounded (b .burst) → Bounded (tickWithFront l t b (heldMore (l .spacing) (l .since)) f .line)
-front-bounded l t b None x y = record { spacing = x .spacing; clock = omega arith; since = omega arith; burst = y; counters = x .counters }
-front-bounded l t b TariffFront x y = record { spacing = x .spacing; clock = omega arith; since = omega arith; burst = y; counters = count-bounded (l .counters) (x .counters) }
-front-bounded l t b BurstFront x y = record { spacing = x .spacing; clock = omega arith; since = omega arith; burst = begun-bounded (b .burst) y; counters = count-bounded (l .counters) (x .counters) }
+counted-bounded : (f : Front) (n : Counters) → CountersBounded n → CountersBounded (countBy f n .counters)
+unfolding countBy
+counted-bounded None n x = x
+counted-bounded TariffFront n x = count-bounded n
+counted-bounded BurstFront n x = count-bounded n
 
 tick-bounded : (l : Line) → Bounded l → Bounded (tickOf l .line)
-unfolding tickOf
+unfolding tickOf moveOf
 tick-bounded l x =
-    let t : Stepped = stepOf (l .pulse) (l .phases) (l .count) (l .tariff) in
-    let b : Aged = agedOf (l .pulse) (l .burst) in
-    front-bounded l t b (frontAt (t .slot) (readyOf (l .spacing) (heldMore (l .spacing) (l .since)) (b .burst) (t .tariff))) x (aged-bounded (l .pulse) (l .burst) (x .burst))
+    let s = l .state in
+    let t : Stepped = stepOf (l .pulse) (l .phases) (l .count) (s .tariff) (s .wait) in
+    let b : Aged = agedOf (l .pulse) (s .burst) in
+    let since : ℕ = heldMore (l .spacing) (s .since) in
+    let f : Front = frontAt (t .slot) (isDue (b .burst) && (leb (l .spacing) since && roomOf (l .spacing) (t .tariff) (t .wait))) in
+    record {
+      spacing = x .spacing;
+      state =
+          record {
+            clock = omega arith;
+            since = since-bounded (l .spacing) since f (omega arith);
+            burst = after-bounded f (b .burst) (aged-bounded (l .pulse) (s .burst) (x .state .burst));
+            counters = counted-bounded f (s .counters) (x .state .counters);
+          };
+    }
 
 -- ---- every call
 step-bounded : (l : Line) → Bounded l → (c : Call) → OutcomeBounded (step l c)
 unfolding step describeOf hookOf periodOf noPeriodOf auditOf
 step-bounded l x (describe t ls p) = described t ls p l (rulingOf l (describe t ls p)) refl x
 step-bounded l x (hook Keep) = x
-step-bounded l x (hook Stop) = record { spacing = x .spacing; clock = x .clock; since = x .since; burst = tt; counters = x .counters }
+step-bounded l x (hook Stop) = record { spacing = x .spacing; state = record { clock = x .state .clock; since = x .state .since; burst = no-burst; counters = x .state .counters } }
 step-bounded l x (period n) = ruled n l (rulingOf l (period n)) x
 step-bounded l x noPeriod = ruled 0 l Allowed x
 step-bounded l x audit = x
@@ -146,5 +190,6 @@ module _ (D S clock : ℕ) (cfg : Config D S) (small : clock < 2 ^ 32) where
 
   pub bounded : {h : List Entry} {l : Line} → Run D S clock cfg h l → Bounded l
   unfolding freshLine
-  bounded begin = record { spacing = cfg .most; clock = small; since = omega arith; burst = tt; counters = record { cpc = omega arith; pcslr = omega arith } }
+  bounded begin =
+      record { spacing = cfg .most; state = record { clock = small; since = omega arith; burst = no-burst; counters = record { cpc = omega arith; pcslr = omega arith } } }
   bounded (more {l = l} {l′ = l′} {c = c} {a = a} r e) = bounded-outcome (step l c) (outcome a l′) e (step-bounded l (bounded r) c)

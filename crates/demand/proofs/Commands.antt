@@ -47,20 +47,20 @@ module _ (D S clock : ℕ) (cfg : Config D S) where
   pub tariff-at : {i : ℕ} {last : Last} {b : Started} {r : Running} {cpc pcslr rp : ℕ} {l : Line} (t : TariffPart) (ps : List Phase) → TariffTaken S t ps r → At D S clock i last b r cpc pcslr rp l →
       At D S clock i last b (changedBy t ps (originAfter S last i) i r) (zeroedBy t cpc) (zeroedBy t pcslr) rp (tariffChanged t (tableWith ps) l)
   unfolding tariffChanged
-  tariff-at {i} NoTariff ps h (line-at {ps = qs} {n = n} e before a g u x) = line-at e before (agree-idle D qs n i) tt u (λ z. absurd (z refl))
+  tariff-at {i} NoTariff ps h (line-at {ps = qs} {n = n} e before a g u x) = line-at e before (agree-idle D qs n 0 i) tt u (λ z. absurd (z refl))
   tariff-at KeepTariff ps h (line-at e before a g u x) = line-at e before a g u x
-  tariff-at {i} {r = r} (Rate P) ps h (line-at {t = t} {ps = qs} {n = n} e before a g u x) =
-      line-at {t = rateOf P t} {ps = qs} {n = n} e before (agree-rate D qs n S r t i g a (sym (rate-runs D qs n r t i a) ∙ h .0) P) (good-rate S qs n P t (h .1) g) u (rw (next-rate P t) x)
-  tariff-at {i} {last} (Em C P) ps h (line-at {w = w} {ps = qs} {n = n} e before a g u x) =
-      let v : ℕ = max 1 (S - w) in
-      line-at {t = emOf C P v} {ps = qs} {n = n} e before (rw (origin-is S i last before, ← e) (agree-em D qs n C P i v (omega arith))) (good-em S qs n C P v h (wait-fits w)) u (rw (next-em C P v) (λ z. omega arith))
-  tariff-at {i} {last} Phased ps h (line-at {w = w} e before a g u x) =
-      let v : ℕ = max 1 (S - w) in
-      line-at {t = phasedOf (eightOf ps) v} {ps = eightOf ps} {n = length ps} e before
-      (rw (origin-is S i last before, ← e) (rw (eight-front ps) at (agree-phased D (eightOf ps) (length ps) (h .0) (h .1) (eight-room ps) i v (omega arith))))
-      (phased-start-good S (eightOf ps) (length ps) v (omega arith) (h .0) (h .1) (eight-room ps) (rw (eight-front ps) (h .2)) (wait-fits w))
+  tariff-at {i} {r = r} (Rate P) ps h (line-at {w = w} {t = t} {ps = qs} {n = n} e before a g u x) =
+      line-at {w = w} {t = rateOf P t} {ps = qs} {n = n} e before (agree-rate D qs n S r t w i g a (sym (rate-runs D qs n r t w i a) ∙ h .0) P) (good-rate S qs n P t w (h .1) g) u (rw (next-rate P t w) x)
+  tariff-at {i} {last} (Em C P) ps h (line-at {v = v} {ps = qs} {n = n} e before a g u x) =
+      let w : ℕ = max 1 (S - v) in
+      line-at {w = w} {t = emOf C P} {ps = qs} {n = n} e before (rw (origin-is S i last before, ← e) (agree-em D qs n C P i w (omega arith))) (good-em S qs n C P w h (wait-fits v)) u (rw (next-em C P w) (λ z. omega arith))
+  tariff-at {i} {last} Phased ps h (line-at {v = v} e before a g u x) =
+      let w : ℕ = max 1 (S - v) in
+      line-at {w = w} {t = phasedOf (eightOf ps)} {ps = eightOf ps} {n = length ps} e before
+      (rw (origin-is S i last before, ← e) (rw (eight-front ps) at (agree-phased D (eightOf ps) (length ps) (h .0) (h .1) (eight-room ps) i w (omega arith))))
+      (phased-start-good S (eightOf ps) (length ps) w (omega arith) (h .0) (h .1) (eight-room ps) (rw (eight-front ps) (h .2)) (wait-fits v))
       u
-      (rw (next-phased (eightOf ps) v) (λ z. omega arith))
+      (rw (next-phased (eightOf ps) w) (λ z. omega arith))
 
   pub burst-at : {i : ℕ} {last : Last} {b : Started} {r : Running} {cpc pcslr rp : ℕ} {l : Line} (running : Bool) (p : BurstPart) → BurstTaken running p → At D S clock i last b r cpc pcslr rp l →
       At D S clock i last (burstBy p None (i + 1) b) r cpc pcslr rp (burstChanged p l)

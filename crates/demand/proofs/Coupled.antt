@@ -7,7 +7,7 @@ use Rattle.tariff.specs.declared.Phase.{Phase}
 use Rattle.tariff.specs.declared.Tariff.{Tariff}
 use Rattle.slots.specs.Slots.{Running}
 use Rattle.burst.specs.declared.Burst.{Burst}
-use Rattle.burst.specs.declared.Burst.the-variants.{Idle, Running as Owing}
+use Rattle.burst.specs.Bursts.{noBurst, burstWith}
 use Rattle.line.specs.declared.Line.{Line}
 use Rattle.demand.specs.Calls.{Entry}
 use Rattle.demand.specs.History.{Last, at, Started, idle, started, pulseOn, ticks, lastFront, burstIn, running, sinceReport, periodIn}
@@ -29,15 +29,16 @@ Apart S since next = (next ≡ 0 → ⊥) → S ≤ since + next
 module _ (D S i : ℕ) where
   -- the burst: none; it runs, with m of its pulses owed; or its last pulse has ended
   pub data BurstAt : Started → Burst → Type 0 where
-    none : BurstAt idle Idle
-    runs : {n P k m s : ℕ} {last : Last} → m + k ≡ n → s ≡ heldSince (max P S) last i → Before last i → (m ≡ 0 → pulseOn D last i ≡ true) → BurstAt (started n P k last) (Owing m (max P S) s)
-    over : {n P k u : ℕ} → n ≤ k → u + D ≤ i → BurstAt (started n P k (at u)) Idle
+    none : BurstAt idle noBurst
+    runs : {n P k m s : ℕ} {last : Last} → m + k ≡ n → s ≡ heldSince (max P S) last i → Before last i → (m ≡ 0 → pulseOn D last i ≡ true) → BurstAt (started n P k last) (burstWith m (max P S) s)
+    over : {n P k u : ℕ} → n ≤ k → u + D ≤ i → BurstAt (started n P k (at u)) noBurst
 
 module _ (D S clock : ℕ) where
   -- after i ticks, by what the history says then
   pub data At (i : ℕ) (last : Last) (b : Started) (r : Running) (cpc pcslr rp : ℕ) : Line → Type 0 where
-    line-at : {w : ℕ} {t : Tariff} {ps : List Phase} {n : ℕ} {u : Burst} → w ≡ heldSince S last i → Before last i → Agree D ps n r t i → Good S ps n t → BurstAt D S i b u → Apart S w (nextOf t) →
-        At i last b r cpc pcslr rp (record { pulse = D; spacing = S; clock = (clock + i) % 2 ^ 32; since = w; tariff = t; phases = ps; count = n; burst = u; counters = record { cpc = cpc; pcslr = pcslr; rp = rp } })
+    line-at : {v w : ℕ} {t : Tariff} {ps : List Phase} {n : ℕ} {u : Burst} → v ≡ heldSince S last i → Before last i → Agree D ps n r t w i → Good S ps n t w → BurstAt D S i b u → Apart S v (nextOf t w) →
+        At i last b r cpc pcslr rp
+        (record { pulse = D; spacing = S; count = n; state = record { wait = w; clock = (clock + i) % 2 ^ 32; since = v; tariff = t; burst = u; counters = record { cpc = cpc; pcslr = pcslr; rp = rp } }; phases = ps })
 
   -- the total counter in another form
   pub with-total : {i : ℕ} {last : Last} {b : Started} {r : Running} {cpc same pcslr rp : ℕ} {l : Line} → cpc ≡ same → At i last b r cpc pcslr rp l → At i last b r same pcslr rp l

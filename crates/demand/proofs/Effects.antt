@@ -1,12 +1,13 @@
 -- What a call does to a line whose burst owes a pulse, in the numbers of the bound.
 use mathlib.Core.Path.{_≡_, refl, sym, ap, _∙_}
-use mathlib.Core.Bool.{Bool, true, false, _&&_, _||_}
-use Prim.Native.Nat.{ℕ, suc, _+_, _-_, _*_, min, _≤_}
+use mathlib.Core.Bool.{Bool, true, false, _&&_, _||_, and-false}
+use Prim.Native.Nat.{ℕ, suc, _+_, _-_, _*_, _%_, _^_, min, _≤_}
 use native.Mathlib.Omega.{arith}
 use borrow.Author.Tests.{leb-false, eqb-false, ne-eqb, lt-ltb}
-use lib.Dec.{leb, eqb}
+use lib.Dec.{leb, ltb, eqb}
+use Rattle.answers.specs.declared.Front.{Front}
 use Rattle.answers.specs.declared.Front.the-variants.{None, Tariff as TariffFront, Burst as BurstFront}
-use Rattle.tariff.specs.Steps.{stepOf, isEndless}
+use Rattle.tariff.specs.Steps.{stepOf, roomOf, isEndless}
 use Rattle.tariff.specs.declared.Slot.{Slot}
 use Rattle.tariff.specs.declared.Slot.the-variants.{None as NoSlot, Empty, Pulse}
 use Rattle.tariff.specs.declared.Stepped.{Stepped}
@@ -19,11 +20,10 @@ use Rattle.descriptor.specs.declared.TariffPart.the-variants.{None as NoTariff,
 use Rattle.descriptor.specs.declared.BurstPart.{BurstPart}
 use Rattle.descriptor.specs.declared.BurstPart.the-variants.{None as NoBurst, Keep as KeepBurst, Start}
 use Rattle.descriptor.specs.declared.Hook.the-variants.{Keep, Stop}
-use Rattle.burst.specs.Bursts.{owedBy, isRunning, heldMore, agedOf, readyOf}
-use Rattle.burst.specs.declared.Burst.the-variants.{Running as Owing}
+use Rattle.burst.specs.Bursts.{burstWith, isRunning, heldMore, completesOf, agedOf, isDue}
 use Rattle.burst.specs.declared.Aged.{Aged}
 use Rattle.line.specs.Rules.{cancelledBy, frontAt}
-use Rattle.line.specs.Lines.{describeOf, hookOf, periodOf, noPeriodOf, auditOf, tickOf, onOf, answeredBy, tariffChanged, burstChanged, withPeriod, tickWithFront, tickBy}
+use Rattle.line.specs.Lines.{describeOf, hookOf, periodOf, noPeriodOf, auditOf, moveOf, tickOf, onOf, answeredBy, tariffChanged, burstChanged, withState, withPeriod, countBy, sinceAfter, burstAfter}
 use Rattle.line.specs.declared.Line.{Line}
 use Rattle.line.specs.declared.Ticked.{Ticked}
 use Rattle.demand.specs.Calls.{Call, describe, hook, period, noPeriod, audit, tick, ticked, Entry, asks}
@@ -53,13 +53,13 @@ NoTick e = granted e .tick ≡ false
 -- from w, v and a burst that owes m + 1 pulses at distance g, with k ticks since its last front
 pub data Effect (S w v m g k : ℕ) (e : Entry) (l : Line) : Type 0 where
   cancels : isNone (granted e .burst) ≡ 1 → Effect S w v m g k e l
-  stays : NoTick e → frontOf e ≡ None → l .since ≡ w → nextOf (l .tariff) ≡ v → l .burst ≡ Owing (suc m) g k → Effect S w v m g k e l
-  stops : NoTick e → frontOf e ≡ None → l .since ≡ w → nextOf (l .tariff) ≡ 0 → l .burst ≡ Owing (suc m) g k → Effect S w v m g k e l
-  begins : NoTick e → frontOf e ≡ None → isFresh (granted e .tariff) ≡ 1 → l .since ≡ w → l .burst ≡ Owing (suc m) g k → Effect S w v m g k e l
-  waiting : IsTick e → frontOf e ≡ None → (v ≡ 1 → ⊥) → Blocked S w g k v → l .since ≡ min S (w + 1) → nextOf (l .tariff) ≡ v - 1 → l .burst ≡ Owing (suc m) g (min g (k + 1)) → Effect S w v m g k e l
-  empty-due : IsTick e → frontOf e ≡ None → v ≡ 1 → ((nextOf (l .tariff) ≡ 0 → ⊥) → 2 * S ≤ nextOf (l .tariff)) → l .since ≡ min S (w + 1) → l .burst ≡ Owing (suc m) g (min g (k + 1)) → Effect S w v m g k e l
-  pulse-due : IsTick e → frontOf e ≡ TariffFront → v ≡ 1 → ((nextOf (l .tariff) ≡ 0 → ⊥) → 2 * S ≤ nextOf (l .tariff)) → l .since ≡ 0 → l .burst ≡ Owing (suc m) g (min g (k + 1)) → Effect S w v m g k e l
-  burst-due : IsTick e → frontOf e ≡ BurstFront → l .since ≡ 0 → l .burst ≡ Owing m g 0 → Effect S w v m g k e l
+  stays : NoTick e → frontOf e ≡ None → l .state .since ≡ w → nextOf (l .state .tariff) (l .state .wait) ≡ v → l .state .burst ≡ burstWith (suc m) g k → Effect S w v m g k e l
+  stops : NoTick e → frontOf e ≡ None → l .state .since ≡ w → nextOf (l .state .tariff) (l .state .wait) ≡ 0 → l .state .burst ≡ burstWith (suc m) g k → Effect S w v m g k e l
+  begins : NoTick e → frontOf e ≡ None → isFresh (granted e .tariff) ≡ 1 → l .state .since ≡ w → l .state .burst ≡ burstWith (suc m) g k → Effect S w v m g k e l
+  waiting : IsTick e → frontOf e ≡ None → (v ≡ 1 → ⊥) → Blocked S w g k v → l .state .since ≡ min S (w + 1) → nextOf (l .state .tariff) (l .state .wait) ≡ v - 1 → l .state .burst ≡ burstWith (suc m) g (min g (k + 1)) → Effect S w v m g k e l
+  empty-due : IsTick e → frontOf e ≡ None → v ≡ 1 → ((nextOf (l .state .tariff) (l .state .wait) ≡ 0 → ⊥) → 2 * S ≤ nextOf (l .state .tariff) (l .state .wait)) → l .state .since ≡ min S (w + 1) → l .state .burst ≡ burstWith (suc m) g (min g (k + 1)) → Effect S w v m g k e l
+  pulse-due : IsTick e → frontOf e ≡ TariffFront → v ≡ 1 → ((nextOf (l .state .tariff) (l .state .wait) ≡ 0 → ⊥) → 2 * S ≤ nextOf (l .state .tariff) (l .state .wait)) → l .state .since ≡ 0 → l .state .burst ≡ burstWith (suc m) g (min g (k + 1)) → Effect S w v m g k e l
+  burst-due : IsTick e → frontOf e ≡ BurstFront → l .state .since ≡ 0 → l .state .burst ≡ burstWith m g 0 → Effect S w v m g k e l
 
 -- ---- a tick
 -- why no burst pulse starts
@@ -77,11 +77,11 @@ blocked-by S w g k v v′ true true false e p q r h = by (eqb v′ 0) refl
         slot-near (omega (arith, d)) (omega arith)
 
 -- the burst owes a pulse, so it is not complete
-aged-is : (D m g k : ℕ) → agedOf D (Owing (suc m) g k) ≡ record { burst = Owing (suc m) g (min g (k + 1)); complete = false }
-unfolding agedOf
-aged-is D m g k = rw (ne-eqb (suc m) 0 (λ z. omega arith))
+aged-is : (D m g k : ℕ) → agedOf D (burstWith (suc m) g k) ≡ record { burst = burstWith (suc m) g (min g (k + 1)); complete = false }
+unfolding agedOf completesOf
+aged-is D m g k = rw (ne-eqb (suc m) 0 (λ z. omega arith), and-false (ltb 0 g))
 
-module _ (l : Line) (cfg : Config (l .pulse) (l .spacing)) (good : Good (l .spacing) (l .phases) (l .count) (l .tariff)) (m g k : ℕ) (owing : l .burst ≡ Owing (suc m) g k) where
+module _ (l : Line) (cfg : Config (l .pulse) (l .spacing)) (good : Good (l .spacing) (l .phases) (l .count) (l .state .tariff) (l .state .wait)) (m g k : ℕ) (owing : l .state .burst ≡ burstWith (suc m) g k) (wide : l .spacing ≤ g) where
   abbrev pub S : ℕ
   S = l .spacing
 
@@ -93,50 +93,71 @@ module _ (l : Line) (cfg : Config (l .pulse) (l .spacing)) (good : Good (l .spac
 
   module _ (c : Call) (ticking : asks c .tick ≡ true) where
     abbrev t′ : Stepped
-    t′ = stepOf (l .pulse) (l .phases) (l .count) (l .tariff)
+    t′ = stepOf (l .pulse) (l .phases) (l .count) (l .state .tariff) (l .state .wait)
 
     abbrev u′ : Aged
-    u′ = record { burst = Owing (suc m) g (min g (k + 1)); complete = false }
+    u′ = record { burst = burstWith (suc m) g (min g (k + 1)); complete = false }
 
     abbrev may-start : Bool
-    may-start = readyOf S (min S (l .since + 1)) (Owing (suc m) g (min g (k + 1))) (t′ .tariff)
+    may-start = isDue (u′ .burst) && (leb S (min S (l .state .since + 1)) && roomOf S (t′ .tariff) (t′ .wait))
+
+    -- a tick whose burst is x one tick on, with this front or none
+    abbrev tickWith : Aged → Front → Ticked
+    tickWith x f =
+        let n = countBy f (l .state .counters) in
+        record {
+          line =
+              withState l
+              (record {
+                wait = t′ .wait;
+                clock = (l .state .clock + 1) % 2 ^ 32;
+                since = sinceAfter f (heldMore S (l .state .since));
+                tariff = t′ .tariff;
+                burst = burstAfter f (x .burst);
+                counters = n .counters;
+              });
+          tick = record { tariff = t′ .complete; burst = x .complete; front = f; report = n .report };
+        }
+
+    abbrev frontWith : Aged → Front
+    frontWith x = frontAt (t′ .slot) (isDue (x .burst) && (leb S (heldMore S (l .state .since)) && roomOf S (t′ .tariff) (t′ .wait)))
 
     abbrev TickEffect : Ticked → Type 0
-    TickEffect x = Effect S (l .since) (nextOf (l .tariff)) m g k (entryOf c (ticked (x .tick)) (x .line)) (x .line)
+    TickEffect x = Effect S (l .state .since) (nextOf (l .state .tariff) (l .state .wait)) m g k (entryOf c (ticked (x .tick)) (x .line)) (x .line)
 
-    blocked : may-start ≡ false → nextOf (t′ .tariff) ≡ nextOf (l .tariff) - 1 → Blocked S (l .since) g k (nextOf (l .tariff))
-    unfolding readyOf
+    blocked : may-start ≡ false → nextOf (t′ .tariff) (t′ .wait) ≡ nextOf (l .state .tariff) (l .state .wait) - 1 → Blocked S (l .state .since) g k (nextOf (l .state .tariff) (l .state .wait))
     blocked h e =
-        blocked-by S (l .since) g k (nextOf (l .tariff)) (nextOf (t′ .tariff)) _ _ _ e refl refl
-        (sym (room-next S (l .phases) (l .count) (t′ .tariff) (good-step S (l .pulse) (l .phases) (l .count) some fits (l .tariff) good))) (rw (lt-ltb 0 (suc m) (omega arith)) at h)
+        blocked-by S (l .state .since) g k (nextOf (l .state .tariff) (l .state .wait)) (nextOf (t′ .tariff) (t′ .wait)) _ _ _ e refl refl
+        (sym (room-next S (l .phases) (l .count) (t′ .tariff) (t′ .wait) (good-step S (l .pulse) (l .phases) (l .count) some fits (l .state .tariff) (l .state .wait) good))) (rw (lt-ltb 0 (suc m) (omega arith)) at h)
 
-    by : (s : Slot) (may : Bool) → may-start ≡ may → Next S (nextOf (l .tariff)) (nextOf (t′ .tariff)) s → TickEffect (tickWithFront l t′ u′ (min S (l .since + 1)) (frontAt s may))
+    by : (s : Slot) (may : Bool) → may-start ≡ may → Next S (nextOf (l .state .tariff) (l .state .wait)) (nextOf (t′ .tariff) (t′ .wait)) s → TickEffect (tickWith u′ (frontAt s may))
+    unfolding sinceAfter burstAfter
     by NoSlot false h (waits p q) = waiting ticking refl p (blocked h q) refl q refl
-    by NoSlot true h (waits p q) = burst-due ticking refl refl (ap (λ (x : ℕ). Owing x g 0) (omega arith))
+    by NoSlot true h (waits p q) = burst-due ticking refl refl (ap (λ (x : ℕ). burstWith x g 0) (omega arith))
     by Empty may h (empty p q) = empty-due ticking refl p q refl refl
     by Pulse may h (pulse p q) = pulse-due ticking refl p q refl refl
 
-    with-aged : (x : Aged) → x ≡ u′ → TickEffect (tickBy l t′ x (heldMore S (l .since)))
-    with-aged x e = rw e (by (t′ .slot) may-start refl (next-step S (l .pulse) (l .phases) (l .count) some fits (l .tariff) good))
+    with-aged : (x : Aged) → x ≡ u′ → TickEffect (tickWith x (frontWith x))
+    with-aged x e = rw e (by (t′ .slot) may-start refl (next-step S (l .pulse) (l .phases) (l .count) some fits (l .state .tariff) (l .state .wait) good))
 
     tick-effect : TickEffect (tickOf l)
-    unfolding tickOf
-    tick-effect = with-aged (agedOf (l .pulse) (l .burst)) (ap (agedOf (l .pulse)) owing ∙ aged-is (l .pulse) m g k)
+    unfolding tickOf moveOf
+    tick-effect = with-aged (agedOf (l .pulse) (l .state .burst)) (ap (agedOf (l .pulse)) owing ∙ aged-is (l .pulse) m g k)
 
   -- ---- the other calls
   abbrev pub EffectOf : Call → Outcome → Type 0
-  EffectOf c (outcome a l′) = Effect S (l .since) (nextOf (l .tariff)) m g k (entryOf c a l′) l′
+  EffectOf c (outcome a l′) = Effect S (l .state .since) (nextOf (l .state .tariff) (l .state .wait)) m g k (entryOf c a l′) l′
 
   changed : (t : TariffPart) (ls : Lists) (b : BurstPart) (u : Ruling) → rulingOf l (describe t ls b) ≡ u →
-      EffectOf (describe t ls b) (answered (answeredBy u l (burstChanged b (tariffChanged t (tableWith (phasesOf ls)) l)) (cancelledBy b (owedBy (l .burst)))))
+      EffectOf (describe t ls b) (answered (answeredBy u l (burstChanged b (tariffChanged t (tableWith (phasesOf ls)) l)) (cancelledBy b (l .state .burst .owed))))
   unfolding tariffChanged burstChanged
   changed t ls b (TurnedDown r) e = stays refl refl refl refl owing
   changed t ls NoBurst Allowed e = cancels refl
   changed t ls (Start n P) Allowed e =
-      absurd (let running : isRunning (l .burst) ≡ true = rw owing refl in let idle = starts-idle S (isEndless (l .tariff)) (isRunning (l .burst)) t ls n P e in let o : _≡_ {A = ℕ} 0 1 = cc in omega arith)
+      absurd (let running : isRunning (l .state .burst) ≡ true = rw owing (lt-ltb 0 g (omega arith)) in let idle = starts-idle S (isEndless (l .state .tariff)) (isRunning (l .state .burst)) t ls n P e in let o : _≡_ {A = ℕ} 0 1 = cc in omega arith)
   changed NoTariff ls KeepBurst Allowed e = stops refl refl refl refl owing
   changed KeepTariff ls KeepBurst Allowed e = stays refl refl refl refl owing
-  changed (Rate P) ls KeepBurst Allowed e = stays refl refl refl (next-rate P (l .tariff)) owing
+  changed (Rate P) ls KeepBurst Allowed e = stays refl refl refl (next-rate P (l .state .tariff) (l .state .wait)) owing
   changed (Em C P) ls KeepBurst Allowed e = begins refl refl refl refl owing
   changed Phased ls KeepBurst Allowed e = begins refl refl refl refl owing
 

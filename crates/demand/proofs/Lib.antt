@@ -18,4 +18,5 @@ pub mod Spacing
 pub mod Demand
 pub mod Bounds
 pub mod Refused
+pub mod Blank
 pub mod Examples

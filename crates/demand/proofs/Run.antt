@@ -16,10 +16,9 @@ use Rattle.descriptor.specs.declared.TariffPart.the-variants.{None as NoTariff}
 use Rattle.descriptor.specs.declared.BurstPart.{BurstPart}
 use Rattle.descriptor.specs.declared.BurstPart.the-variants.{None as NoBurst}
 use Rattle.descriptor.specs.declared.Hook.the-variants.{Keep, Stop}
-use Rattle.burst.specs.Bursts.{owedBy}
-use Rattle.burst.specs.declared.Burst.the-variants.{Idle as NoBurstRuns}
+use Rattle.burst.specs.Bursts.{noBurst}
 use Rattle.line.specs.Rules.{cancelledBy}
-use Rattle.line.specs.Lines.{freshLine, describeOf, hookOf, periodOf, noPeriodOf, auditOf, tickOf, onOf, answeredBy, tariffChanged, burstChanged, withPeriod, zeroCounters}
+use Rattle.line.specs.Lines.{freshLine, describeOf, hookOf, periodOf, noPeriodOf, auditOf, tickOf, onOf, answeredBy, tariffChanged, burstChanged, withPeriod, idleLine}
 use Rattle.line.specs.declared.Line.{Line}
 use Rattle.demand.specs.Calls.{Call, describe, hook, period, noPeriod, audit, tick, Answer, accepted, counters, ticked, Entry}
 use Rattle.demand.specs.History.{ticks, lastFront, burstIn, owed, burstRuns, running, frontsSinceEm, sinceReport, periodIn, pulseOn, never, idle}
@@ -40,16 +39,16 @@ module _ (D S clock : ℕ) (cfg : Config D S) where
   -- what is read off a coupled line
   module _ (h : List Entry) where
     rulings-agree : {l : Line} → Coupled D S clock h l → (c : Call) → rulingOf l c ≡ rulingAfter D S h c
-    rulings-agree (line-at {t = t} {ps = ps} {n = n} {u = u} e before a g x y) c =
-        rw (rate-runs D ps n (running D S h) t (ticks h) a, ← runs-is D S cfg (ticks h) (burstIn h) u x)
+    rulings-agree (line-at {w = w} {t = t} {ps = ps} {n = n} {u = u} e before a g x y) c =
+        rw (rate-runs D ps n (running D S h) t w (ticks h) a, ← runs-is D S cfg (ticks h) (burstIn h) u x)
 
-    owed-agrees : {l : Line} → Coupled D S clock h l → owedBy (l .burst) ≡ owed h
+    owed-agrees : {l : Line} → Coupled D S clock h l → l .state .burst .owed ≡ owed h
     owed-agrees (line-at {u = u} e before a g x y) = owed-is D S cfg (ticks h) (burstIn h) u x
 
-    counters-agree : {l : Line} → Coupled D S clock h l → counters (l .counters .cpc) (l .counters .pcslr) ≡ counters (total h) (sinceReport h)
+    counters-agree : {l : Line} → Coupled D S clock h l → counters (l .state .counters .cpc) (l .state .counters .pcslr) ≡ counters (total h) (sinceReport h)
     counters-agree (line-at e before a g x y) = refl
 
-    pub clock-agrees : {l : Line} → Coupled D S clock h l → l .clock ≡ (clock + ticks h) % 2 ^ 32
+    pub clock-agrees : {l : Line} → Coupled D S clock h l → l .state .clock ≡ (clock + ticks h) % 2 ^ 32
     clock-agrees (line-at e before a g x y) = refl
 
     pub on-agrees : {l : Line} → Coupled D S clock h l → onOf l ≡ pulseOn D (lastFront h) (ticks h)
@@ -62,7 +61,7 @@ module _ (D S clock : ℕ) (cfg : Config D S) where
 
   module _ (h : List Entry) {l : Line} (x : Coupled D S clock h l) where
     describe-right : (t : TariffPart) (ls : Lists) (b : BurstPart) (u : Ruling) → rulingAfter D S h (describe t ls b) ≡ u →
-        Right h (describe t ls b) (answered (answeredBy u l (burstChanged b (tariffChanged t (tableWith (phasesOf ls)) l)) (cancelledBy b (owedBy (l .burst)))))
+        Right h (describe t ls b) (answered (answeredBy u l (burstChanged b (tariffChanged t (tableWith (phasesOf ls)) l)) (cancelledBy b (l .state .burst .owed))))
     unfolding answerAfter ticks lastFront burstIn running frontsSinceEm sinceReport periodIn
     describe-right t ls b Allowed e =
         let both = taken S (runsEndless (running D S h)) (burstRuns D (burstIn h) (ticks h)) t ls b (running D S h) refl e in
@@ -91,8 +90,8 @@ module _ (D S clock : ℕ) (cfg : Config D S) where
 
   -- a fresh line, whose clock fits 32 bits
   fresh-at : (k : ℕ) → k ≡ (clock + 0) % 2 ^ 32 →
-      At D S clock 0 never idle nothing 0 0 0 (record { pulse = D; spacing = S; clock = k; since = S; tariff = Idle; phases = noPhases; count = 0; burst = NoBurstRuns; counters = zeroCounters 0 })
-  fresh-at k e = rw e (line-at {w = S} {t = Idle} {ps = noPhases} {n = 0} refl tt (agree-idle D noPhases 0 0) tt none (λ z. absurd (z refl)))
+      At D S clock 0 never idle nothing 0 0 0 (idleLine D S k S)
+  fresh-at k e = rw e (line-at {v = S} {w = 0} {t = Idle} {ps = noPhases} {n = 0} refl tt (agree-idle D noPhases 0 0 0) tt none (λ z. absurd (z refl)))
 
   right-of : (h : List Entry) (c : Call) {a : Answer} {l′ : Line} (o : Outcome) → o ≡ outcome a l′ → Right h c o → Right h c (outcome a l′)
   right-of h c o e x = rw e at x
@@ -129,5 +128,5 @@ module _ (D S clock : ℕ) (cfg : Config D S) where
   cut (e ∷ a) h (more r q) = cut a h r
 
   -- an entry reads the line that its call hands back or leaves
-  pub reads : {h : List Entry} {l : Line} {e : Entry} → Run (e ∷ h) l → (e .clock ≡ l .clock) × (e .on ≡ onOf l)
+  pub reads : {h : List Entry} {l : Line} {e : Entry} → Run (e ∷ h) l → (e .clock ≡ l .state .clock) × (e .on ≡ onOf l)
   reads (more r e) = (refl, refl)

@@ -39,7 +39,7 @@ module _ (D S clock : ℕ) (cfg : Config D S) where
   slot-passed : (h : List Entry) {l : Line} → Coupled D S clock h l → slotAt (running D S h) (ticks h + 1) ≡ Pulse → passed S (lastFront h) (ticks h + 1) ≡ true
   slot-passed h (line-at {w = w} {t = t} {ps = ps} {n = n} e before a g x y) s =
       let fits : Waits D = record { some = omega arith; most = omega arith } in
-      let due = pulse-next (stepOf D ps n t .slot) (sym (agree-now S D ps n (omega arith) fits (running D S h) t (ticks h) g a) ∙ s) (next-step S D ps n (omega arith) fits t g) in
+      let due = pulse-next (stepOf D ps n t w .slot) (sym (agree-now S D ps n (omega arith) fits (running D S h) t w (ticks h) g a) ∙ s) (next-step S D ps n (omega arith) fits t w g) in
       let far = y (λ z. omega arith) in
       let more = held-more S (ticks h) (lastFront h) before in
       sym (held-passed S (ticks h + 1) (lastFront h) (before-more (lastFront h) (ticks h) before)) ∙ le-leb S (heldSince S (lastFront h) (ticks h + 1)) (omega arith)

@@ -88,4 +88,4 @@ module _ (D S clock : ℕ) (cfg : Config D S) (small : clock < 2 ^ 32) where
   pub sum-run : {h : List Entry} {l : Line} → Run D S clock cfg h l → acceptedPulses h ≡ begun h + cancelled h + owed h
   unfolding sum burstIn
   sum-run begin = refl
-  sum-run (more {h = h} {l′ = l} {c = c} {a = a} r q) = omega (arith, sum-run r, balanced D S h (l .clock) (onOf l) c a (kind D S h c (answer-right D S clock cfg small (more r q))))
+  sum-run (more {h = h} {l′ = l} {c = c} {a = a} r q) = omega (arith, sum-run r, balanced D S h (l .state .clock) (onOf l) c a (kind D S h c (answer-right D S clock cfg small (more r q))))

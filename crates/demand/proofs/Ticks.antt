@@ -16,11 +16,11 @@ use Rattle.tariff.specs.declared.Slot.{Slot}
 use Rattle.tariff.specs.declared.Slot.the-variants.{None as NoSlot, Empty, Pulse}
 use Rattle.tariff.specs.declared.Stepped.{Stepped}
 use Rattle.slots.specs.Slots.{Running, nothing, slotAt, completesAt, quietFor}
-use Rattle.burst.specs.Bursts.{heldMore, agedOf, readyOf, begunOf}
+use Rattle.burst.specs.Bursts.{heldMore, agedOf, isDue, begunOf}
 use Rattle.burst.specs.declared.Burst.{Burst}
 use Rattle.burst.specs.declared.Aged.{Aged}
 use Rattle.line.specs.Rules.{oneMore, reportDue, frontAt}
-use Rattle.line.specs.Lines.{countOf, tickWithFront, tickOf}
+use Rattle.line.specs.Lines.{countOf, countBy as countedBy, sinceAfter, burstAfter, moveOf, tickOf}
 use Rattle.line.specs.declared.Count.{Count}
 use Rattle.line.specs.declared.Line.{Line}
 use Rattle.demand.specs.History.{Last, at, passed, Started, oneBegun, burstCompletes, burstReady}
@@ -68,8 +68,8 @@ module _ (D S clock : ℕ) (cfg : Config D S) where
   After i last b r cpc pcslr rp k l =
       At D S clock (i + 1) (ifFront (k .front) (at (i + 1)) last) (ifBurst (k .front) (oneBegun (i + 1) b) b) (cond (completesAt D r (i + 1)) nothing r) (countBy (k .front) cpc) (cond (k .report) 0 (countBy (k .front) pcslr)) rp l
 
-  module _ (i : ℕ) (last : Last) (b : Started) (r : Running) (cpc pcslr rp : ℕ) (t : Tariff) (ps : List Phase) (n : ℕ) (u : Burst)
-      (w : ℕ) (held : w ≡ heldSince S last i) (before : Before last i) (a : Agree D ps n r t i) (g : Good S ps n t) (x : BurstAt D S i b u) (y : Apart S w (nextOf t)) where
+  module _ (i : ℕ) (last : Last) (b : Started) (r : Running) (cpc pcslr rp : ℕ) (t : Tariff) (w : ℕ) (ps : List Phase) (n : ℕ) (u : Burst)
+      (v : ℕ) (held : v ≡ heldSince S last i) (before : Before last i) (a : Agree D ps n r t w i) (g : Good S ps n t w) (x : BurstAt D S i b u) (y : Apart S v (nextOf t w)) where
     some : 1 ≤ S
     some = omega arith
 
@@ -77,72 +77,96 @@ module _ (D S clock : ℕ) (cfg : Config D S) where
     fits = record { some = omega arith; most = omega arith }
 
     abbrev t′ : Stepped
-    t′ = stepOf D ps n t
+    t′ = stepOf D ps n t w
 
     abbrev u′ : Aged
     u′ = agedOf D u
 
     abbrev now : ℕ
-    now = heldMore S w
+    now = heldMore S v
 
     now-is : now ≡ heldSince S last (i + 1)
     now-is = ap (heldMore S) held ∙ held-more S i last before
-
-    abbrev before-tick : Line
-    before-tick =
-        record { pulse = D; spacing = S; clock = (clock + i) % 2 ^ 32; since = w; tariff = t; phases = ps; count = n; burst = u; counters = record { cpc = cpc; pcslr = pcslr; rp = rp } }
 
     clock-more : ((clock + i) % 2 ^ 32 + 1) % 2 ^ 32 ≡ (clock + (i + 1)) % 2 ^ 32
     clock-more = omega arith
 
     abbrev may-start : Bool
-    may-start = readyOf S now (u′ .burst) (t′ .tariff)
+    may-start = isDue (u′ .burst) && (leb S now && roomOf S (t′ .tariff) (t′ .wait))
 
-    ready-is : may-start ≡ (burstReady S b (i + 1) && (passed S last (i + 1) && roomOf S (t′ .tariff)))
-    ready-is = burst-ready D S cfg (i + 1) b (u′ .burst) (burst-aged D S cfg i b u x .1) last (before-more last i before) now now-is (t′ .tariff)
+    ready-is : may-start ≡ (burstReady S b (i + 1) && (passed S last (i + 1) && roomOf S (t′ .tariff) (t′ .wait)))
+    ready-is = burst-ready D S cfg (i + 1) b (u′ .burst) (burst-aged D S cfg i b u x .1) last (before-more last i before) now now-is (roomOf S (t′ .tariff) (t′ .wait))
 
-    room-is : may-start ≡ true → (nextOf (t′ .tariff) ≡ 0 → ⊥) → S ≤ nextOf (t′ .tariff)
+    room-is : may-start ≡ true → (nextOf (t′ .tariff) (t′ .wait) ≡ 0 → ⊥) → S ≤ nextOf (t′ .tariff) (t′ .wait)
     room-is h =
-        room-says S (nextOf (t′ .tariff))
-        (sym (room-next S ps n (t′ .tariff) (good-step S D ps n some fits t g)) ∙ and-eq-true-iff (passed S last (i + 1)) _ .0 (and-eq-true-iff (burstReady S b (i + 1)) _ .0 (sym ready-is ∙ h) .1) .1)
+        room-says S (nextOf (t′ .tariff) (t′ .wait))
+        (sym (room-next S ps n (t′ .tariff) (t′ .wait) (good-step S D ps n some fits t w g))
+        ∙ and-eq-true-iff (passed S last (i + 1)) _ .0 (and-eq-true-iff (burstReady S b (i + 1)) _ .0 (sym ready-is ∙ h) .1) .1)
+
+    -- the tick and the state after it, with this front or none
+    abbrev told : Front → Tick
+    told f = record { tariff = t′ .complete; burst = u′ .complete; front = f; report = countedBy f (record { cpc = cpc; pcslr = pcslr; rp = rp }) .report }
+
+    abbrev lineAfter : Front → Line
+    lineAfter f =
+        record {
+          pulse = D;
+          spacing = S;
+          count = n;
+          state =
+              record {
+                wait = t′ .wait;
+                clock = ((clock + i) % 2 ^ 32 + 1) % 2 ^ 32;
+                since = sinceAfter f now;
+                tariff = t′ .tariff;
+                burst = burstAfter f (u′ .burst);
+                counters = countedBy f (record { cpc = cpc; pcslr = pcslr; rp = rp }) .counters;
+              };
+          phases = ps;
+        }
 
     -- by the slot that is due and whether a burst pulse may start
-    by : (s : Slot) (may : Bool) → Next S (nextOf t) (nextOf (t′ .tariff)) s → (may ≡ true → burstReady S b (i + 1) ≡ true) → (may ≡ true → (nextOf (t′ .tariff) ≡ 0 → ⊥) → S ≤ nextOf (t′ .tariff)) →
-        let k = tickWithFront before-tick t′ u′ now (frontAt s may) in
-        (k .tick ≡ tickTold i last b r pcslr rp (frontAt s may)) × After i last b r cpc pcslr rp (k .tick) (k .line)
+    by : (s : Slot) (may : Bool) → Next S (nextOf t w) (nextOf (t′ .tariff) (t′ .wait)) s → (may ≡ true → burstReady S b (i + 1) ≡ true) →
+        (may ≡ true → (nextOf (t′ .tariff) (t′ .wait) ≡ 0 → ⊥) → S ≤ nextOf (t′ .tariff) (t′ .wait)) →
+        (told (frontAt s may) ≡ tickTold i last b r pcslr rp (frontAt s may)) × After i last b r cpc pcslr rp (told (frontAt s may)) (lineAfter (frontAt s may))
+    unfolding countedBy sinceAfter burstAfter
     by NoSlot false (waits p q) h z =
-        rw (← agree-complete S D ps n some fits r t i g a, ← burst-aged D S cfg i b u x .0, clock-more) (
+        rw (← agree-complete S D ps n some fits r t w i g a, ← burst-aged D S cfg i b u x .0, clock-more) (
           refl,
-          line-at {w = now} {t = t′ .tariff} {ps = ps} {n = n} {u = u′ .burst} now-is (before-more last i before) (agree-tick S D ps n some fits r t i g a) (good-step S D ps n some fits t g) (burst-aged D S cfg i b u x .1)
-              (λ e. let l = y (λ o. e (omega arith)) in omega arith),
+          line-at {v = now} {w = t′ .wait} {t = t′ .tariff} {ps = ps} {n = n} {u = u′ .burst} now-is (before-more last i before) (agree-tick S D ps n some fits r t w i g a) (good-step S D ps n some fits t w g)
+              (burst-aged D S cfg i b u x .1) (λ e. let l = y (λ o. e (omega arith)) in omega arith),
         )
     by NoSlot true (waits p q) h z =
-        rw (← agree-complete S D ps n some fits r t i g a, ← burst-aged D S cfg i b u x .0, clock-more, count-is cpc pcslr rp) (
+        rw (← agree-complete S D ps n some fits r t w i g a, ← burst-aged D S cfg i b u x .0, clock-more, count-is cpc pcslr rp) (
           refl,
-          line-at {w = 0} {t = t′ .tariff} {ps = ps} {n = n} {u = begunOf (u′ .burst)} (omega arith) (omega arith) (agree-tick S D ps n some fits r t i g a) (good-step S D ps n some fits t g)
+          line-at {v = 0} {w = t′ .wait} {t = t′ .tariff} {ps = ps} {n = n} {u = begunOf (u′ .burst)} (omega arith) (omega arith) (agree-tick S D ps n some fits r t w i g a) (good-step S D ps n some fits t w g)
               (burst-begun D S cfg (i + 1) b (u′ .burst) (burst-aged D S cfg i b u x .1) (h refl)) (λ e. let l = z refl e in omega arith),
         )
     by Empty may (empty p q) h z =
-        rw (← agree-complete S D ps n some fits r t i g a, ← burst-aged D S cfg i b u x .0, clock-more) (
+        rw (← agree-complete S D ps n some fits r t w i g a, ← burst-aged D S cfg i b u x .0, clock-more) (
           refl,
-          line-at {w = now} {t = t′ .tariff} {ps = ps} {n = n} {u = u′ .burst} now-is (before-more last i before) (agree-tick S D ps n some fits r t i g a) (good-step S D ps n some fits t g) (burst-aged D S cfg i b u x .1)
-              (λ e. let l = q e in omega arith),
+          line-at {v = now} {w = t′ .wait} {t = t′ .tariff} {ps = ps} {n = n} {u = u′ .burst} now-is (before-more last i before) (agree-tick S D ps n some fits r t w i g a) (good-step S D ps n some fits t w g)
+              (burst-aged D S cfg i b u x .1) (λ e. let l = q e in omega arith),
         )
     by Pulse may (pulse p q) h z =
-        rw (← agree-complete S D ps n some fits r t i g a, ← burst-aged D S cfg i b u x .0, clock-more, count-is cpc pcslr rp) (
+        rw (← agree-complete S D ps n some fits r t w i g a, ← burst-aged D S cfg i b u x .0, clock-more, count-is cpc pcslr rp) (
           refl,
-          line-at {w = 0} {t = t′ .tariff} {ps = ps} {n = n} {u = u′ .burst} (omega arith) (omega arith) (agree-tick S D ps n some fits r t i g a) (good-step S D ps n some fits t g) (burst-aged D S cfg i b u x .1)
-              (λ e. let l = q e in omega arith),
+          line-at {v = 0} {w = t′ .wait} {t = t′ .tariff} {ps = ps} {n = n} {u = u′ .burst} (omega arith) (omega arith) (agree-tick S D ps n some fits r t w i g a) (good-step S D ps n some fits t w g)
+              (burst-aged D S cfg i b u x .1) (λ e. let l = q e in omega arith),
         )
 
-    both : let k = tickWithFront before-tick t′ u′ now (frontAt (t′ .slot) may-start) in
-        (k .tick ≡ tickTold i last b r pcslr rp (frontDue i last b r)) × After i last b r cpc pcslr rp (k .tick) (k .line)
+    both : (told (frontAt (t′ .slot) may-start) ≡ tickTold i last b r pcslr rp (frontDue i last b r)) ×
+        After i last b r cpc pcslr rp (told (frontAt (t′ .slot) may-start)) (lineAfter (frontAt (t′ .slot) may-start))
     both =
-        rw (agree-now S D ps n some fits r t i g a, agree-room S D ps n r (t′ .tariff) (i + 1) (good-step S D ps n some fits t g) (runs-on S D ps n some fits r t i g a), ← ready-is)
-        (by (t′ .slot) may-start (next-step S D ps n some fits t g) (λ h. and-eq-true-iff (burstReady S b (i + 1)) _ .0 (sym ready-is ∙ h) .0) room-is)
+        rw (
+          agree-now S D ps n some fits r t w i g a,
+          agree-room S D ps n r (t′ .tariff) (t′ .wait) (i + 1) (good-step S D ps n some fits t w g) (runs-on S D ps n some fits r t w i g a),
+          ← ready-is,
+        )
+        (by (t′ .slot) may-start (next-step S D ps n some fits t w g) (λ h. and-eq-true-iff (burstReady S b (i + 1)) _ .0 (sym ready-is ∙ h) .0) room-is)
 
   pub tick-at : {i : ℕ} {last : Last} {b : Started} {r : Running} {cpc pcslr rp : ℕ} {l : Line} → At D S clock i last b r cpc pcslr rp l →
       (tickOf l .tick ≡ tickTold i last b r pcslr rp (frontDue i last b r)) × After i last b r cpc pcslr rp (tickOf l .tick) (tickOf l .line)
-  unfolding tickOf
-  tick-at {i} {last} {b} {r} {cpc} {pcslr} {rp} (line-at {w = w} {t = t} {ps = ps} {n = n} {u = u} e before a g x y) =
-      both i last b r cpc pcslr rp t ps n u w e before a g x y
+  unfolding tickOf moveOf
+  tick-at {i} {last} {b} {r} {cpc} {pcslr} {rp} (line-at {v = v} {w = w} {t = t} {ps = ps} {n = n} {u = u} e before a g x y) =
+      both i last b r cpc pcslr rp t w ps n u v e before a g x y

@@ -43,11 +43,11 @@ step l tick = moved (tickOf l)
 
 -- what the table of refusals makes of a call on this line
 abbrev pub rulingOf : Line → Call → Ruling
-rulingOf l c = ruling (causes (l .spacing) (isEndless (l .tariff)) (isRunning (l .burst)) c)
+rulingOf l c = ruling (causes (l .spacing) (isEndless (l .state .tariff)) (isRunning (l .state .burst)) c)
 
 -- the entry of a call that was answered a and left the line l
 abbrev pub entryOf : Call → Answer → Line → Entry
-entryOf c a l = record { call = c; answer = a; clock = l .clock; on = onOf l }
+entryOf c a l = record { call = c; answer = a; clock = l .state .clock; on = onOf l }
 
 -- a history, newest first, and the line after it
 pub data Past : Type 0 where

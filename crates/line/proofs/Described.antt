@@ -13,7 +13,7 @@ use Rattle.descriptor.specs.declared.Ruling.the-variants.{Allowed, TurnedDown}
 use Rattle.descriptor.specs.declared.TariffPart.{TariffPart}
 use Rattle.descriptor.specs.declared.TariffPart.the-variants.{None as NoTariff, Keep as KeepTariff, Rate, Em, Phased}
 use Rattle.descriptor.specs.declared.BurstPart.{BurstPart}
-use Rattle.burst.specs.Bursts.{owedBy, isRunning}
+use Rattle.burst.specs.Bursts.{isRunning}
 use Rattle.line.specs.Rules.{cancelledBy}
 use Rattle.line.specs.Lines.{tariffChanged, burstChanged, answeredBy, describedBy, describeOf}
 use Rattle.line.specs.declared.Line.{Line}
@@ -39,8 +39,8 @@ pub describe-is : (l : Line) (t : TariffPart) (ls : Lists) (p : BurstPart) → d
 unfolding describeOf
 describe-is l t ls p =
     let S : ℕ = l .spacing in
-    let e : Bool = isEndless (l .tariff) in
-    let b : Bool = isRunning (l .burst) in
+    let e : Bool = isEndless (l .state .tariff) in
+    let b : Bool = isRunning (l .state .burst) in
     rw (descriptor-ruling-is S e b t ls p)
-    (same-answer (ruling (descriptorCauses S e b t ls p)) l (cancelledBy p (owedBy (l .burst)))
+    (same-answer (ruling (descriptorCauses S e b t ls p)) l (cancelledBy p (l .state .burst .owed))
     (λ h. rw (tariff-changed-is S e b t ls l (none-after (tariffCauses S e b t ls) (burstCauses S e b p) h .0))))

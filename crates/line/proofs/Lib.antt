@@ -1,3 +1,3 @@
 -- The files of this folder.
 pub mod Described
-pub mod Blank
+pub mod QuietTicks

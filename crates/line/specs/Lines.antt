@@ -1,14 +1,14 @@
 -- What each command makes of a line and answers: what the code computes.
-use mathlib.Core.Bool.{Bool, true, false, cond}
+use mathlib.Core.Bool.{Bool, true, false, cond, not, _&&_, _||_}
 use Prim.Native.Nat.{ℕ, _+_, _-_, _%_, _^_, max}
-use lib.Dec.{ltb}
+use lib.Dec.{leb, ltb}
+use Rattle.answers.specs.Fronts.{ifFront, ifBurst, silent}
 use Rattle.answers.specs.declared.Front.{Front}
-use Rattle.answers.specs.declared.Front.the-variants.{None, Tariff as TariffFront, Burst as BurstFront}
-use Rattle.answers.specs.declared.Tick.{Tick}
-use Rattle.tariff.specs.Steps.{stepOf, emOf, phasedOf, rateOf, isEndless}
+use Rattle.tariff.specs.Steps.{stepOf, roomOf, emOf, phasedOf, rateOf, isIdle, isEndless}
+use Rattle.tariff.specs.declared.Slot.{Slot}
+use Rattle.tariff.specs.declared.Slot.the-variants.{None as NoSlot, Empty, Pulse}
 use Rattle.tariff.specs.declared.Tariff.{Tariff}
 use Rattle.tariff.specs.declared.Tariff.the-variants.{Idle}
-use Rattle.tariff.specs.declared.Stepped.{Stepped}
 use Rattle.phase_lists.specs.Lists.{Lists, phasesOf}
 use Rattle.phase_lists.specs.Tables.{noPhases, tableWith}
 use Rattle.phase_lists.specs.declared.PhaseTable.{PhaseTable}
@@ -17,22 +17,25 @@ use Rattle.descriptor.specs.Rulings.{descriptorRuling}
 use Rattle.descriptor.specs.declared.Ruling.{Ruling}
 use Rattle.descriptor.specs.declared.Ruling.the-variants.{Allowed, TurnedDown}
 use Rattle.descriptor.specs.declared.TariffPart.{TariffPart}
-use Rattle.descriptor.specs.declared.TariffPart.the-variants.{None as NoTariff, Keep as KeepTariff, Rate, Em, Phased}
+use Rattle.descriptor.specs.declared.TariffPart.the-variants.{None as NoTariff, Keep as KeepTariff}
+use Rattle.descriptor.specs.declared.TariffPart.the-variants.{Rate, Em, Phased}
 use Rattle.descriptor.specs.declared.BurstPart.{BurstPart}
 use Rattle.descriptor.specs.declared.BurstPart.the-variants.{None as NoBurst, Keep as KeepBurst, Start}
 use Rattle.descriptor.specs.declared.Refusal.the-variants.{Configuration}
 use Rattle.descriptor.specs.declared.Hook.{Hook}
 use Rattle.descriptor.specs.declared.Hook.the-variants.{Keep, Stop}
-use Rattle.burst.specs.Bursts.{heldMore, owedBy, isRunning, agedOf, readyOf, begunOf}
+use Rattle.burst.specs.Bursts.{noBurst, startOf, isRunning, heldMore, olderOf, agedOf, isDue, begunOf}
+use Rattle.burst.specs.Bursts.{quietOf as burstQuiet}
 use Rattle.burst.specs.declared.Burst.{Burst}
-use Rattle.burst.specs.declared.Burst.the-variants.{Idle as NoBurstRuns, Running}
-use Rattle.burst.specs.declared.Aged.{Aged}
 use Rattle.line.specs.Rules.{oneMore, reportDue, cancelledBy, frontAt}
 use Rattle.line.specs.declared.Counters.{Counters}
+use Rattle.line.specs.declared.State.{State}
 use Rattle.line.specs.declared.Line.{Line}
 use Rattle.line.specs.declared.Verdict.the-variants.{Accepted, Refused}
 use Rattle.line.specs.declared.Answered.{Answered}
 use Rattle.line.specs.declared.Audited.{Audited}
+use Rattle.line.specs.declared.Moved.{Moved}
+use Rattle.line.specs.declared.Quick.{Quick}
 use Rattle.line.specs.declared.Ticked.{Ticked}
 use Rattle.line.specs.declared.Count.{Count}
 
@@ -47,13 +50,10 @@ idleLine D S clock since =
     record {
       pulse = D;
       spacing = S;
-      clock = clock;
-      since = since;
-      tariff = Idle;
-      phases = noPhases;
       count = 0;
-      burst = NoBurstRuns;
-      counters = zeroCounters 0;
+      state =
+          record { wait = 0; clock = clock; since = since; tariff = Idle; burst = noBurst; counters = zeroCounters 0 };
+      phases = noPhases;
     }
 
 -- with no earlier front its rules ask nothing
@@ -74,32 +74,35 @@ makeOf D G clock =
 
 -- the ticks to the origin of a fresh tariff
 abbrev pub originWait : Line → ℕ
-originWait l = max 1 (l .spacing - l .since)
+originWait l = max 1 (l .spacing - l .state .since)
 
--- the line at another clock, so many ticks after a front, with these signals and counters
-abbrev pub lineWith : Line → ℕ → ℕ → Tariff → Burst → Counters → Line
-lineWith l clock since t b n =
-    record {
-      pulse = l .pulse;
-      spacing = l .spacing;
-      clock = clock;
-      since = since;
-      tariff = t;
-      phases = l .phases;
-      count = l .count;
-      burst = b;
-      counters = n;
-    }
+abbrev pub withState : Line → State → Line
+withState l s =
+    record { pulse = l .pulse; spacing = l .spacing; count = l .count; state = s; phases = l .phases }
 
-abbrev pub withTariff : Line → Tariff → Line
-withTariff l t = lineWith l (l .clock) (l .since) t (l .burst) (l .counters)
+-- another tariff, with the ticks to its next slot, and these counters
+abbrev pub withTariff : State → ℕ → Tariff → Counters → State
+withTariff s w t n =
+    record { wait = w; clock = s .clock; since = s .since; tariff = t; burst = s .burst; counters = n }
 
-abbrev pub withBurst : Line → Burst → Line
-withBurst l b = lineWith l (l .clock) (l .since) (l .tariff) b (l .counters)
+abbrev pub withBurst : State → Burst → State
+withBurst s b =
+    record { wait = s .wait; clock = s .clock; since = s .since; tariff = s .tariff; burst = b; counters = s .counters }
+
+abbrev pub withCounters : State → Counters → State
+withCounters s n = withTariff s (s .wait) (s .tariff) n
+
+-- no tariff runs
+abbrev pub stopped : State → State
+stopped s = withTariff s 0 Idle (s .counters)
+
+-- a rate: the next slot stays
+abbrev pub rated : State → ℕ → State
+rated s P = withTariff s (s .wait) (rateOf P (s .tariff)) (s .counters)
 
 -- a fresh em zeroes the counters
-abbrev pub withEm : Line → Tariff → Line
-withEm l t = lineWith l (l .clock) (l .since) t (l .burst) (zeroCounters (l .counters .rp))
+abbrev pub withEm : Line → ℕ → ℕ → Line
+withEm l C P = withState l (withTariff (l .state) (originWait l) (emOf C P) (zeroCounters (l .state .counters .rp)))
 
 -- the phases are in a table
 abbrev pub withTable : Line → PhaseTable → Line
@@ -107,27 +110,22 @@ withTable l t =
     record {
       pulse = l .pulse;
       spacing = l .spacing;
-      clock = l .clock;
-      since = l .since;
-      tariff = phasedOf (t .phases) (originWait l);
-      phases = t .phases;
       count = t .count;
-      burst = l .burst;
-      counters = l .counters;
+      state = withTariff (l .state) (originWait l) (phasedOf (t .phases)) (l .state .counters);
+      phases = t .phases;
     }
 
 unfoldable pub tariffChanged : TariffPart → PhaseTable → Line → Line
-tariffChanged NoTariff t l = withTariff l Idle
+tariffChanged NoTariff t l = withState l (stopped (l .state))
 tariffChanged KeepTariff t l = l
-tariffChanged (Rate P) t l = withTariff l (rateOf P (l .tariff))
-tariffChanged (Em C P) t l = withEm l (emOf C P (originWait l))
+tariffChanged (Rate P) t l = withState l (rated (l .state) P)
+tariffChanged (Em C P) t l = withEm l C P
 tariffChanged Phased t l = withTable l t
 
--- a burst starts with its distance passed
 unfoldable pub burstChanged : BurstPart → Line → Line
-burstChanged NoBurst l = withBurst l NoBurstRuns
+burstChanged NoBurst l = withState l (withBurst (l .state) noBurst)
 burstChanged KeepBurst l = l
-burstChanged (Start n P) l = withBurst l (Running n (max P (l .spacing)) (max P (l .spacing)))
+burstChanged (Start n P) l = withState l (withBurst (l .state) (startOf n (max P (l .spacing))))
 
 -- a refused call leaves the line as it was
 abbrev pub answeredBy : Ruling → Line → Line → ℕ → Answered
@@ -136,27 +134,30 @@ answeredBy (TurnedDown r) l changed k = record { line = l; verdict = Refused r }
 
 unfoldable pub describeOf : Line → TariffPart → Lists → BurstPart → Answered
 describeOf l t ls b =
-    answeredBy (ruling (descriptorCauses (l .spacing) (isEndless (l .tariff)) (isRunning (l .burst)) t ls b)) l
+    let s = l .state in
+    answeredBy (ruling (descriptorCauses (l .spacing) (isEndless (s .tariff)) (isRunning (s .burst)) t ls b)) l
     (burstChanged b (tariffChanged t (tableWith (phasesOf ls)) l))
-    (cancelledBy b (owedBy (l .burst)))
+    (cancelledBy b (s .burst .owed))
 
 -- the same with the phases in a table, as the code has them
 abbrev pub describedBy : Line → TariffPart → PhaseTable → BurstPart → Answered
 describedBy l t table b =
-    answeredBy (descriptorRuling (l .spacing) (isEndless (l .tariff)) (isRunning (l .burst)) t table b) l
+    let s = l .state in
+    answeredBy (descriptorRuling (l .spacing) (isEndless (s .tariff)) (isRunning (s .burst)) t table b) l
     (burstChanged b (tariffChanged t table l))
-    (cancelledBy b (owedBy (l .burst)))
+    (cancelledBy b (s .burst .owed))
 
 unfoldable pub hookOf : Line → Hook → Answered
 hookOf l Keep = record { line = l; verdict = Accepted 0 }
-hookOf l Stop = record { line = withBurst (withTariff l Idle) NoBurstRuns; verdict = Accepted (owedBy (l .burst)) }
+hookOf l Stop =
+    record { line = withState l (withBurst (stopped (l .state)) noBurst); verdict = Accepted (l .state .burst .owed) }
 
 -- ---- report period and audit
 
 abbrev pub withPeriod : Line → ℕ → Line
-withPeriod l n =
-    lineWith l (l .clock) (l .since) (l .tariff) (l .burst)
-    (record { cpc = l .counters .cpc; pcslr = l .counters .pcslr; rp = n })
+withPeriod l rp =
+    let n = l .state .counters in
+    withState l (withCounters (l .state) (record { cpc = n .cpc; pcslr = n .pcslr; rp = rp }))
 
 unfoldable pub periodOf : Line → ℕ → Answered
 periodOf l n = answeredBy (ruling (periodCauses n)) l (withPeriod l n) 0
@@ -165,7 +166,7 @@ unfoldable pub noPeriodOf : Line → Answered
 noPeriodOf l = record { line = withPeriod l 0; verdict = Accepted 0 }
 
 unfoldable pub auditOf : Line → Audited
-auditOf l = record { line = l; cpc = l .counters .cpc; pcslr = l .counters .pcslr }
+auditOf l = record { line = l; cpc = l .state .counters .cpc; pcslr = l .state .counters .pcslr }
 
 -- ---- one tick
 
@@ -176,37 +177,79 @@ countOf n =
     (record { counters = record { cpc = oneMore (n .cpc); pcslr = 0; rp = n .rp }; report = true })
     (record { counters = record { cpc = oneMore (n .cpc); pcslr = oneMore (n .pcslr); rp = n .rp }; report = false })
 
--- the clock is 32 bits wide
-abbrev pub movedBy : Line → ℕ → Tariff → Burst → Counters → Line
-movedBy l since t b n = lineWith l ((l .clock + 1) % 2 ^ 32) since t b n
+-- after a tick with this front or none: the counters, the ticks since the last front, and the burst
+unfoldable pub countBy : Front → Counters → Count
+countBy f n = ifFront f (countOf n) (record { counters = n; report = false })
 
--- what a tick tells of its tariff and its burst, its front and its report
-abbrev pub toldBy : Stepped → Aged → Front → Bool → Tick
-toldBy t b front report = record { tariff = t .complete; burst = b .complete; front = front; report = report }
+unfoldable pub sinceAfter : Front → ℕ → ℕ
+sinceAfter f since = ifFront f 0 since
 
--- a tick with a front, where t and b are the tariff and the burst one tick on, and burst is what the front leaves of b
-abbrev pub tickWithPulse : Line → Stepped → Aged → Burst → Front → Ticked
-tickWithPulse l t b burst front =
-    let n = countOf (l .counters) in
-    record { line = movedBy l 0 (t .tariff) burst (n .counters); tick = toldBy t b front (n .report) }
-
--- a tick with this front or none, where t, b and since are one tick on: the tariff, the burst, the ticks since a front
-abbrev pub tickWithFront : Line → Stepped → Aged → ℕ → Front → Ticked
-tickWithFront l t b since None =
-    record { line = movedBy l since (t .tariff) (b .burst) (l .counters); tick = toldBy t b None false }
-tickWithFront l t b since TariffFront = tickWithPulse l t b (b .burst) TariffFront
-tickWithFront l t b since BurstFront = tickWithPulse l t b (begunOf (b .burst)) BurstFront
-
--- the same with the front that is due
-abbrev pub tickBy : Line → Stepped → Aged → ℕ → Ticked
-tickBy l t b since = tickWithFront l t b since (frontAt (t .slot) (readyOf (l .spacing) since (b .burst) (t .tariff)))
-
--- the clock goes up; what is over ends; a slot due now, or else a burst pulse, begins
-unfoldable pub tickOf : Line → Ticked
-tickOf l =
-    tickBy l (stepOf (l .pulse) (l .phases) (l .count) (l .tariff)) (agedOf (l .pulse) (l .burst))
-    (heldMore (l .spacing) (l .since))
+unfoldable pub burstAfter : Front → Burst → Burst
+burstAfter f b = ifBurst f (begunOf b) b
 
 -- a pulse is on: fewer than D ticks since the last front
+abbrev pub isOn : ℕ → ℕ → Bool
+isOn D since = ltb since D
+
+-- something happened: a slot, an empty one too, a front, a completion, or the end of a pulse
+unfoldable pub happens : Slot → Front → Bool → Bool → Bool
+happens s f complete ended = elim s [ NoSlot ↦ ifFront f true (complete || ended) | Empty ↦ true | Pulse ↦ true ]
+
+-- the clock goes up; what is over ends; a slot due now, or else a burst pulse, begins; counters and report
+unfoldable pub moveOf : Line → Moved
+moveOf l =
+    let s = l .state in
+    let t = stepOf (l .pulse) (l .phases) (l .count) (s .tariff) (s .wait) in
+    let b = agedOf (l .pulse) (s .burst) in
+    let since = heldMore (l .spacing) (s .since) in
+    let may = isDue (b .burst) && (leb (l .spacing) since && roomOf (l .spacing) (t .tariff) (t .wait)) in
+    let f = frontAt (t .slot) may in
+    let n = countBy f (s .counters) in
+    record {
+      state =
+          record {
+            wait = t .wait;
+            clock = (s .clock + 1) % 2 ^ 32;
+            since = sinceAfter f since;
+            tariff = t .tariff;
+            burst = burstAfter f (b .burst);
+            counters = n .counters;
+          };
+      tick = record { tariff = t .complete; burst = b .complete; front = f; report = n .report };
+      event = happens (t .slot) f (t .complete) (isOn (l .pulse) (s .since) && not (isOn (l .pulse) since));
+    }
+
+unfoldable pub tickOf : Line → Ticked
+tickOf l = record { line = withState l (moveOf l .state); tick = moveOf l .tick }
+
 unfoldable pub onOf : Line → Bool
-onOf l = ltb (l .since) (l .pulse)
+onOf l = isOn (l .pulse) (l .state .since)
+
+-- ---- a quiet tick
+
+-- nothing is due, nothing ends and no burst pulse may start
+unfoldable pub quietOf : ℕ → ℕ → State → Bool
+quietOf D S s =
+    let since = heldMore S (s .since) in
+    (ltb 1 (s .wait) || isIdle (s .tariff))
+    && (not (isOn D (s .since) && not (isOn D since)) && burstQuiet D (leb S since) (s .burst))
+
+-- a quiet tick changes these numbers alone
+unfoldable pub waitedOf : ℕ → State → State
+waitedOf S s =
+    record {
+      wait = s .wait - 1;
+      clock = (s .clock + 1) % 2 ^ 32;
+      since = heldMore S (s .since);
+      tariff = s .tariff;
+      burst = olderOf (s .burst);
+      counters = s .counters;
+    }
+
+-- busy, or the tick, where it is quiet
+unfoldable pub quickOf : ℕ → ℕ → State → Quick
+quickOf D S s =
+    record {
+      busy = not (quietOf D S s);
+      moved = record { state = waitedOf S s; tick = silent; event = false };
+    }

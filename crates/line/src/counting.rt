@@ -1,9 +1,10 @@
 // The counters: a front adds 1 to both, and may give a report.
 ghost use mathlib.Core.Path.{_≡_};
 ghost use Rattle.line.specs.Rules.{oneMore, reportDue};
-ghost use Rattle.line.specs.Lines.{countOf};
+ghost use Rattle.line.specs.Lines.{countOf, countBy};
 use super::Count;
 use super::Counters;
+use answers::Front;
 
 // One more, held at 4,294,967,295.
 fn one_more(n: u32) -> u32
@@ -44,6 +45,19 @@ impl Counters {
                 },
                 report: false,
             }
+        }
+    }
+    // After a tick with this front or none.
+    pub(crate) fn counted_by(self, front: Front) -> Count
+        ensures { λ r. ⌜ r ≡ countBy front self ⌝ }
+    {
+        match front {
+            Front::None => Count {
+                counters: self,
+                report: false,
+            },
+            Front::Tariff => self.counted(),
+            Front::Burst => self.counted(),
         }
     }
 }

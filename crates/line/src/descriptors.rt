@@ -1,7 +1,7 @@
 // Descriptors: what the table of refusals makes of one, and the line and the answer after it.
 ghost use mathlib.Core.Path.{_≡_};
 ghost use Prim.Native.Nat.{max};
-ghost use Rattle.tariff.specs.Steps.{emOf, isEndless};
+ghost use Rattle.tariff.specs.Steps.{isEndless};
 ghost use Rattle.phase_lists.specs.Lists.{listsOf};
 ghost use Rattle.descriptor.specs.Rulings.{descriptorRuling};
 ghost use Rattle.burst.specs.Bursts.{isRunning};
@@ -44,8 +44,9 @@ impl Line {
     fn origin_wait(self) -> u64
         ensures { λ r. ⌜ r ≡ originWait self ⌝ }
     {
-        if self.since < self.spacing {
-            (self.spacing - self.since) as u64
+        let s = self.state;
+        if s.since < self.spacing {
+            (self.spacing - s.since) as u64
         } else {
             1
         }
@@ -53,31 +54,28 @@ impl Line {
 
     // The line with a fresh em, which zeroes the counters.
     fn with_em(self, count: u32, period: u32) -> Line
-        ensures { λ r. ⌜ r ≡ withEm self (emOf count period (originWait self)) ⌝ }
+        ensures { λ r. ⌜ r ≡ withEm self count period ⌝ }
     {
-        let wait = self.origin_wait();
-        let rp = self.counters.rp;
-        Line {
-            tariff: Tariff::em(count, period, wait),
-            counters: Counters {
-                cpc: 0,
-                pcslr: 0,
-                rp,
-            },
-            ..self
-        }
+        let s = self.state;
+        let old = s.counters;
+        let zero = Counters {
+            cpc: 0,
+            pcslr: 0,
+            rp: old.rp,
+        };
+        self.with_state(s.with_tariff(self.origin_wait(), Tariff::em(count, period), zero))
     }
 
     // The line with a fresh phased tariff, whose phases are in the table.
     fn with_table(self, table: PhaseTable) -> Line
         ensures { λ r. ⌜ r ≡ withTable self table ⌝ }
     {
-        let wait = self.origin_wait();
+        let s = self.state;
         let phases = table.phases;
         Line {
-            tariff: Tariff::phased(phases, wait),
-            phases,
             count: table.count,
+            state: s.with_tariff(self.origin_wait(), Tariff::phased(phases), s.counters),
+            phases,
             ..self
         }
     }
@@ -86,11 +84,11 @@ impl Line {
     fn with_tariff_part(self, part: TariffPart, table: PhaseTable) -> Line
         ensures { λ r. ⌜ r ≡ tariffChanged part table self ⌝ }
     {
-        let old = self.tariff;
+        let s = self.state;
         match part {
-            TariffPart::None => self.with_tariff(Tariff::Idle),
+            TariffPart::None => self.with_state(s.stopped()),
             TariffPart::Keep => self,
-            TariffPart::Rate { interval } => self.with_tariff(old.rate(interval)),
+            TariffPart::Rate { interval } => self.with_state(s.rated(interval)),
             TariffPart::Em { count, period } => self.with_em(count, period),
             TariffPart::Phased => self.with_table(table),
         }
@@ -100,26 +98,24 @@ impl Line {
     fn with_burst_part(self, part: BurstPart) -> Line
         ensures { λ r. ⌜ r ≡ burstChanged part self ⌝ }
     {
+        let s = self.state;
         match part {
-            BurstPart::None => self.with_burst(Burst::Idle),
+            BurstPart::None => self.with_state(s.with_burst(Burst::none())),
             BurstPart::Keep => self,
             BurstPart::Start { pulses, interval } => {
                 let distance = larger(interval, self.spacing);
-                self.with_burst(Burst::Running {
-                    owed: pulses,
-                    distance,
-                    since: distance,
-                })
+                self.with_state(s.with_burst(Burst::start(pulses, distance)))
             }
         }
     }
 
     // What the table of refusals makes of a descriptor, whose phases, if it is phased, are in the table.
     fn ruling(self, tariff: TariffPart, table: PhaseTable, burst: BurstPart) -> Ruling
-        ensures { λ r. ⌜ r ≡ descriptorRuling (self .spacing) (isEndless (self .tariff)) (isRunning (self .burst)) tariff table burst ⌝ }
+        ensures { λ r. ⌜ r ≡ descriptorRuling (self .spacing) (isEndless (self .state .tariff)) (isRunning (self .state .burst)) tariff table burst ⌝ }
     {
-        let old_tariff = self.tariff;
-        let old_burst = self.burst;
+        let s = self.state;
+        let old_tariff = s.tariff;
+        let old_burst = s.burst;
         let endless = old_tariff.is_endless();
         let running = old_burst.is_running();
         descriptor::ruling_on(self.spacing, endless, running, tariff, table, burst)
@@ -136,8 +132,9 @@ impl Line {
                 verdict: Verdict::Refused(refusal),
             },
             Ruling::Allowed => {
-                let old = self.burst;
-                let cancelled = cancelled_by(burst, old.owed());
+                let s = self.state;
+                let old = s.burst;
+                let cancelled = cancelled_by(burst, old.owed);
                 let changed = self.with_tariff_part(tariff, table);
                 Answered {
                     line: changed.with_burst_part(burst),

@@ -6,7 +6,6 @@ use super::Line;
 use super::Verdict;
 use burst::Burst;
 use descriptor::Hook;
-use tariff::Tariff;
 
 impl Line {
     // A hook event: keep leaves the signals, stop ends the tariff and cancels the burst.
@@ -19,12 +18,12 @@ impl Line {
                 verdict: Verdict::Accepted(0),
             },
             Hook::Stop => {
-                let burst = self.burst;
-                let owed = burst.owed();
-                let quiet = self.with_tariff(Tariff::Idle);
+                let state = self.state;
+                let burst = state.burst;
+                let quiet = state.stopped();
                 Answered {
-                    line: quiet.with_burst(Burst::Idle),
-                    verdict: Verdict::Accepted(owed),
+                    line: self.with_state(quiet.with_burst(Burst::none())),
+                    verdict: Verdict::Accepted(burst.owed),
                 }
             }
         }

@@ -1,44 +1,54 @@
 // Making a line.
 ghost use mathlib.Core.Path.{_≡_};
-ghost use Rattle.line.specs.Lines.{freshLine, blankLine, makeOf};
+ghost use Rattle.line.specs.Lines.{idleLine, freshLine, blankLine, makeOf};
 use super::Answered;
 use super::Counters;
 use super::Line;
+use super::State;
 use super::Verdict;
 use burst::Burst;
 use descriptor::Refusal;
 use tariff::Tariff;
 
 impl Line {
-    // No tariff, burst, report period or earlier front, and counters 0.
-    fn fresh(pulse: u32, spacing: u32, clock: u32) -> Line
-        ensures { λ r. ⌜ r ≡ freshLine pulse spacing clock ⌝ }
+    // No tariff, burst or report period, and counters 0.
+    fn idle(pulse: u32, spacing: u32, clock: u32, since: u32) -> Line
+        ensures { λ r. ⌜ r ≡ idleLine pulse spacing clock since ⌝ }
     {
         let none = phase_lists::no_table();
         let phases = none.phases;
         Line {
             pulse,
             spacing,
-            clock,
-            since: spacing,
-            tariff: Tariff::Idle,
-            phases,
             count: 0,
-            burst: Burst::Idle,
-            counters: Counters {
-                cpc: 0,
-                pcslr: 0,
-                rp: 0,
+            state: State {
+                wait: 0,
+                clock,
+                since,
+                tariff: Tariff::Idle,
+                burst: Burst::none(),
+                counters: Counters {
+                    cpc: 0,
+                    pcslr: 0,
+                    rp: 0,
+                },
             },
+            phases,
         }
+    }
+
+    // With no earlier front its rules ask nothing.
+    fn fresh(pulse: u32, spacing: u32, clock: u32) -> Line
+        ensures { λ r. ⌜ r ≡ freshLine pulse spacing clock ⌝ }
+    {
+        Line::idle(pulse, spacing, clock, spacing)
     }
 
     // The line of a refused configuration, which begins no pulse.
     fn blank() -> Line
         ensures { λ r. ⌜ r ≡ blankLine ⌝ }
     {
-        let fresh = Line::fresh(0, 4294967295, 0);
-        Line { since: 0, ..fresh }
+        Line::idle(0, 4294967295, 0, 0)
     }
 
     // A line of this pulse length and gap; a blank line where they are refused.

@@ -1,20 +1,51 @@
-// The line with another tariff or another burst.
+// The state with another tariff, another burst or other counters.
 ghost use mathlib.Core.Path.{_≡_};
-ghost use Rattle.line.specs.Lines.{withTariff, withBurst};
+ghost use Rattle.line.specs.Lines.{withTariff, withBurst, withState, stopped, rated};
+use super::Counters;
 use super::Line;
+use super::State;
 use burst::Burst;
 use tariff::Tariff;
 
-impl Line {
-    pub(crate) fn with_tariff(self, tariff: Tariff) -> Line
-        ensures { λ r. ⌜ r ≡ withTariff self tariff ⌝ }
+impl State {
+    // Another tariff, whose next slot is `wait` ticks away, and these counters.
+    pub(crate) fn with_tariff(self, wait: u64, tariff: Tariff, counters: Counters) -> State
+        ensures { λ r. ⌜ r ≡ withTariff self wait tariff counters ⌝ }
     {
-        Line { tariff, ..self }
+        State {
+            wait,
+            tariff,
+            counters,
+            ..self
+        }
     }
 
-    pub(crate) fn with_burst(self, burst: Burst) -> Line
+    pub(crate) fn with_burst(self, burst: Burst) -> State
         ensures { λ r. ⌜ r ≡ withBurst self burst ⌝ }
     {
-        Line { burst, ..self }
+        State { burst, ..self }
+    }
+
+    // No tariff runs.
+    pub(crate) fn stopped(self) -> State
+        ensures { λ r. ⌜ r ≡ stopped self ⌝ }
+    {
+        self.with_tariff(0, Tariff::Idle, self.counters)
+    }
+
+    // A rate: the next slot stays.
+    pub(crate) fn rated(self, interval: u32) -> State
+        ensures { λ r. ⌜ r ≡ rated self interval ⌝ }
+    {
+        let old = self.tariff;
+        self.with_tariff(self.wait, old.rate(interval), self.counters)
+    }
+}
+
+impl Line {
+    pub(crate) fn with_state(self, state: State) -> Line
+        ensures { λ r. ⌜ r ≡ withState self state ⌝ }
+    {
+        Line { state, ..self }
     }
 }

@@ -18,7 +18,7 @@ impl Line {
                 verdict: Verdict::Refused(Refusal::Period),
             };
         }
-        self.counters.rp = rp;
+        self.state.counters.rp = rp;
         Answered {
             line: self,
             verdict: Verdict::Accepted(0),
@@ -29,7 +29,7 @@ impl Line {
     pub fn clear_period(mut self) -> Answered
         ensures { λ r. ⌜ r ≡ noPeriodOf self ⌝ }
     {
-        self.counters.rp = 0;
+        self.state.counters.rp = 0;
         Answered {
             line: self,
             verdict: Verdict::Accepted(0),
@@ -40,10 +40,12 @@ impl Line {
     pub fn audit(self) -> Audited
         ensures { λ r. ⌜ r ≡ auditOf self ⌝ }
     {
+        let s = self.state;
+        let n = s.counters;
         Audited {
             line: self,
-            cpc: self.counters.cpc,
-            pcslr: self.counters.pcslr,
+            cpc: n.cpc,
+            pcslr: n.pcslr,
         }
     }
 }

@@ -1,17 +1,16 @@
 // The ticks of a line, and whether a pulse is on.
 ghost use mathlib.Core.Path.{_≡_};
+ghost use mathlib.Core.Bool.{not, _&&_};
 ghost use Rattle.line.specs.Rules.{frontAt};
-ghost use Rattle.line.specs.Lines.{toldBy, movedBy, tickWithPulse, tickWithFront, tickOf, onOf};
-use super::Counters;
+ghost use Rattle.line.specs.Lines.{isOn, sinceAfter, burstAfter, happens, moveOf, tickOf, onOf};
 use super::Line;
+use super::Moved;
+use super::State;
 use super::Ticked;
 use answers::Front;
 use answers::Tick;
-use burst::Aged;
 use burst::Burst;
 use tariff::Slot;
-use tariff::Stepped;
-use tariff::Tariff;
 
 // A slot due now begins its pulse, or nothing if it is empty; where none is due, a burst pulse may begin.
 fn front_at(slot: Slot, burst: bool) -> Front
@@ -24,86 +23,109 @@ fn front_at(slot: Slot, burst: bool) -> Front
     }
 }
 
-// What a tick tells of its tariff and its burst, its front and its report.
-fn told_by(t: Stepped, b: Aged, front: Front, report: bool) -> Tick
-    ensures { λ r. ⌜ r ≡ toldBy t b front report ⌝ }
+// The ticks since the last front, which may be at this tick.
+fn since_front(front: Front, since: u32) -> u32
+    ensures { λ r. ⌜ r ≡ sinceAfter front since ⌝ }
 {
-    Tick {
-        tariff: t.complete,
-        burst: b.complete,
-        front,
-        report,
+    match front {
+        Front::None => since,
+        Front::Tariff => 0,
+        Front::Burst => 0,
+    }
+}
+
+// The burst after this front or none.
+fn burst_after(front: Front, burst: Burst) -> Burst
+    ensures { λ r. ⌜ r ≡ burstAfter front burst ⌝ }
+{
+    let begun = burst.begun();
+    match front {
+        Front::None => burst,
+        Front::Tariff => burst,
+        Front::Burst => begun,
+    }
+}
+
+// Whether a pulse that was on is over now.
+fn ends(pulse: u32, before: u32, now: u32) -> bool
+    ensures { λ r. ⌜ r ≡ (isOn pulse before && not (isOn pulse now)) ⌝ }
+{
+    (before < pulse) & !(now < pulse)
+}
+
+// Whether anything happened.
+fn has_event(slot: Slot, front: Front, complete: bool, ended: bool) -> bool
+    ensures { λ r. ⌜ r ≡ happens slot front complete ended ⌝ }
+{
+    match slot {
+        Slot::None => match front {
+            Front::None => complete | ended,
+            Front::Tariff => true,
+            Front::Burst => true,
+        },
+        Slot::Empty => true,
+        Slot::Pulse => true,
     }
 }
 
 impl Line {
-    // The line one tick later: the clock goes up by 1, and these parts are new.
-    fn moved_by(self, since: u32, tariff: Tariff, burst: Burst, counters: Counters) -> Line
-        ensures { λ r. ⌜ r ≡ movedBy self since tariff burst counters ⌝ }
+    // One tick: the clock goes up, what is over ends, a slot due now, or else a burst pulse, begins, and is counted.
+    pub fn moved(self) -> Moved
+        ensures { λ r. ⌜ r ≡ moveOf self ⌝ }
     {
-        Line {
-            clock: std::num::wrapping_add_u32(self.clock, 1),
-            since,
-            tariff,
-            burst,
-            counters,
-            ..self
-        }
-    }
-
-    // The line after a tick with a front, where t and b are the tariff and the burst one tick on, and `burst` is what the
-    // front leaves of b.
-    fn with_pulse(self, t: Stepped, b: Aged, burst: Burst, front: Front) -> Ticked
-        ensures { λ r. ⌜ r ≡ tickWithPulse self t b burst front ⌝ }
-    {
-        let tariff = t.tariff;
-        let counters = self.counters;
-        let count = counters.counted();
-        Ticked {
-            line: self.moved_by(0, tariff, burst, count.counters),
-            tick: told_by(t, b, front, count.report),
-        }
-    }
-
-    // The line after a tick with this front or none, where t, b and since are the tariff, the burst and the ticks since the
-    // last front one tick on.
-    fn with_front(self, t: Stepped, b: Aged, since: u32, front: Front) -> Ticked
-        ensures { λ r. ⌜ r ≡ tickWithFront self t b since front ⌝ }
-    {
-        let tariff = t.tariff;
-        let burst = b.burst;
-        let begun = burst.begun();
-        match front {
-            Front::None => Ticked {
-                line: self.moved_by(since, tariff, burst, self.counters),
-                tick: told_by(t, b, front, false),
-            },
-            Front::Tariff => self.with_pulse(t, b, burst, front),
-            Front::Burst => self.with_pulse(t, b, begun, front),
-        }
-    }
-
-    // One tick: the clock goes up, what is over ends, and a slot due now, or else a burst pulse, begins.
-    pub fn tick(self) -> Ticked
-        ensures { λ r. ⌜ r ≡ tickOf self ⌝ }
-    {
-        let old_tariff = self.tariff;
-        let old_burst = self.burst;
+        let s = self.state;
         let phases = self.phases;
-        let t = old_tariff.step(self.pulse, phases, self.count);
+        let old_tariff = s.tariff;
+        let old_burst = s.burst;
+        let old_counters = s.counters;
+        let t = old_tariff.step(s.wait, self.pulse, phases, self.count);
         let b = old_burst.aged(self.pulse);
-        let since = burst::held_more(self.spacing, self.since);
+        let since = burst::held_more(self.spacing, s.since);
         let tariff = t.tariff;
         let burst = b.burst;
         let slot = t.slot;
-        let ready = burst.is_ready(self.spacing, since, tariff);
-        self.with_front(t, b, since, front_at(slot, ready))
+        let room = tariff.room(t.wait, self.spacing);
+        let may = burst.is_due() & ((self.spacing <= since) & room);
+        let front = front_at(slot, may);
+        let n = old_counters.counted_by(front);
+        let counters = n.counters;
+        Moved {
+            state: State {
+                wait: t.wait,
+                clock: std::num::wrapping_add_u32(s.clock, 1),
+                since: since_front(front, since),
+                tariff,
+                burst: burst_after(front, burst),
+                counters,
+            },
+            tick: Tick {
+                tariff: t.complete,
+                burst: b.complete,
+                front,
+                report: n.report,
+            },
+            event: has_event(slot, front, t.complete, ends(self.pulse, s.since, since)),
+        }
+    }
+
+    // One tick.
+    pub fn tick(self) -> Ticked
+        ensures { λ r. ⌜ r ≡ tickOf self ⌝ }
+    {
+        let m = self.moved();
+        let state = m.state;
+        let tick = m.tick;
+        Ticked {
+            line: self.with_state(state),
+            tick,
+        }
     }
 
     // Whether a pulse is on.
     pub fn is_on(self) -> bool
         ensures { λ r. ⌜ r ≡ onOf self ⌝ }
     {
-        self.since < self.pulse
+        let s = self.state;
+        s.since < self.pulse
     }
 }

@@ -2,10 +2,14 @@
 use super::output;
 use super::phases::Phases;
 use super::phases::part;
+use answers::Front;
+use answers::Tick;
 use descriptor::BurstPart;
 use descriptor::TariffPart;
 use line::Answered;
 use line::Line;
+use line::Moved;
+use line::State;
 use line::Verdict;
 use printing::Answer;
 use script::Command;
@@ -68,23 +72,60 @@ fn describe_with(line: Line, tariff: TariffPart, burst: BurstPart, phases: Phase
     describe(line, tariff, burst, &lists, phases.taken)
 }
 
-// Ticks a line n times, which is made then, and puts what each tick tells.
+fn is_front(front: Front) -> bool {
+    match front {
+        Front::None => false,
+        Front::Tariff => true,
+        Front::Burst => true,
+    }
+}
+
+// Whether a tick tells something: a completion, a front or a report.
+fn tells(tick: Tick) -> bool {
+    let front = tick.front;
+    (tick.tariff | tick.burst) | (tick.report | is_front(front))
+}
+
+// A tick of a line in this state.
+fn moved(line: Line, state: State) -> Moved {
+    let now = Line { state, ..line };
+    now.moved()
+}
+
+// Puts what a tick tells, if it tells something.
+fn put_moved(out: &mut [u8], at: usize, m: Moved) -> usize {
+    let tick = m.tick;
+    if tells(tick) {
+        let state = m.state;
+        let counters = state.counters;
+        return output::put_tick(out, at, state.clock, counters.cpc, tick);
+    }
+    at
+}
+
+// Ticks a line n times, which is made then, and puts what each tick tells. The line itself is looked at only where a
+// tick is busy.
 fn run(line: Line, n: u32, out: &mut [u8], held: usize) -> Gateway {
-    let mut now = line;
+    let pulse = line.pulse;
+    let spacing = line.spacing;
+    let mut state = line.state;
     let mut at = held;
     let mut i: u32 = 0;
     while i < n {
-        let t = now.tick();
-        now = t.line;
-        let told = t.tick;
-        let clock = now.clock;
-        let cpc = now.counters.cpc;
-        at = output::put_tick(out, at, clock, cpc, told);
+        let q = state.quick(pulse, spacing);
+        if q.busy {
+            let m = moved(line, state);
+            state = m.state;
+            at = put_moved(out, at, m);
+        } else {
+            let m = q.moved;
+            state = m.state;
+        }
         i += 1;
     }
     Gateway {
         made: true,
-        line: now,
+        line: Line { state, ..line },
         held: at,
     }
 }

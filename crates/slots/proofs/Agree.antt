@@ -13,14 +13,14 @@ use Rattle.slots.specs.Slots.{Running, endless, slotAt, completesAt, fir
 use Rattle.slots.proofs.Ahead.{ahead, completesIn}
 
 -- of an em with C = 0: the same interval, and the first slot past tick i
-pub data SameRate (i : ℕ) : Running → Tariff → Type 0 where
-  steady : {f P w : ℕ} → firstPast f P i ≡ i + w → SameRate i (endless f P) (Endless P w)
-  other : {r : Running} {t : Tariff} → runsEndless r ≡ false → isEndless t ≡ false → SameRate i r t
+pub data SameRate (i : ℕ) : Running → Tariff → ℕ → Type 0 where
+  steady : {f P w : ℕ} → firstPast f P i ≡ i + w → SameRate i (endless f P) (Endless P) w
+  other : {r : Running} {t : Tariff} {w : ℕ} → runsEndless r ≡ false → isEndless t ≡ false → SameRate i r t w
 
-pub record Agree (D : ℕ) (a : List Phase) (n : ℕ) (r : Running) (t : Tariff) (i : ℕ) : Type 0 where
-  pub slots : (y : ℕ) → 1 ≤ y → slotAt r (i + y) ≡ ahead a n t y
-  pub ends : (y : ℕ) → 1 ≤ y → completesAt D r (i + y) ≡ completesIn a n D t y
-  pub rate : SameRate i r t
+pub record Agree (D : ℕ) (a : List Phase) (n : ℕ) (r : Running) (t : Tariff) (w i : ℕ) : Type 0 where
+  pub slots : (y : ℕ) → 1 ≤ y → slotAt r (i + y) ≡ ahead a n t w y
+  pub ends : (y : ℕ) → 1 ≤ y → completesAt D r (i + y) ≡ completesIn a n D t w y
+  pub rate : SameRate i r t w
 
 -- what one tick does to the ticks to the next slot, v, which is 0 where none is left
 pub data Next (S v v′ : ℕ) : Slot → Type 0 where

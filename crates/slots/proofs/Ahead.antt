@@ -6,7 +6,7 @@ use Prim.Native.Nat.{ℕ, _+_, _-_, _*_, _/_, _%_, max, _≤_, _<_}
 use lib.Dec.{ltb, eqb}
 use lib.ListN.{take, length}
 use Rattle.tariff.specs.Rules.{soundPhases}
-use Rattle.tariff.specs.Steps.{phaseAt, pulsesAt}
+use Rattle.tariff.specs.Steps.{phaseAt, pulsesAt, slotLeft}
 use Rattle.tariff.specs.declared.Phase.{Phase}
 use Rattle.tariff.specs.declared.Slot.{Slot}
 use Rattle.tariff.specs.declared.Slot.the-variants.{None}
@@ -16,13 +16,9 @@ use Rattle.slots.specs.Slots.{endlessSlot, countedSlot, intervalSlot, in
 use Rattle.slots.specs.Slots.{from}
 use Rattle.tariff.proofs.PhasedList.{after}
 
--- the ticks to the next slot, 0 if none is left
-abbrev pub nextOf : Tariff → ℕ
-nextOf Idle = 0
-nextOf (Endless P w) = w
-nextOf (Counted C P k w) = w
-nextOf (Phased i e l j w) = w
-nextOf (Ending w) = 0
+-- the ticks to the next slot where the wait is w, 0 if none is left
+abbrev pub nextOf : Tariff → ℕ → ℕ
+nextOf t w = cond (slotLeft t) w 0
 
 -- x ticks after the start of a charge interval with map entry e, while its phase lasts
 unfoldable pub phaseFrom : Phase → ℕ → ℕ → Slot
@@ -36,23 +32,23 @@ module _ (a : List Phase) (n : ℕ) where
   -- the slots of a tariff, in ticks from its next slot
   unfoldable pub slotsOf : Tariff → ℕ → Slot
   slotsOf Idle x = None
-  slotsOf (Endless P w) x = endlessSlot P x
-  slotsOf (Counted C P k w) x = countedSlot C P (x + k * P / C)
-  slotsOf (Phased i e l j w) x = phasesFrom (phaseAt a i) (after a n i) e l (x + j * phaseAt a i .pri)
-  slotsOf (Ending w) x = None
+  slotsOf (Endless P) x = endlessSlot P x
+  slotsOf (Counted C P k) x = countedSlot C P (x + k * P / C)
+  slotsOf (Phased i e l j) x = phasesFrom (phaseAt a i) (after a n i) e l (x + j * phaseAt a i .pri)
+  slotsOf Ending x = None
 
   -- the slot y ticks from now
-  abbrev pub ahead : Tariff → ℕ → Slot
-  ahead t y = from (nextOf t) (slotsOf t) y
+  abbrev pub ahead : Tariff → ℕ → ℕ → Slot
+  ahead t w y = from (nextOf t w) (slotsOf t) y
 
   -- the tariff completes y ticks from now
-  unfoldable pub completesIn : ℕ → Tariff → ℕ → Bool
-  completesIn D Idle y = false
-  completesIn D (Endless P w) y = false
-  completesIn D (Counted C P k w) y = eqb y (w + ((C - 1) * P / C - k * P / C) + D)
-  completesIn D (Phased i e l j w) y =
+  unfoldable pub completesIn : ℕ → Tariff → ℕ → ℕ → Bool
+  completesIn D Idle w y = false
+  completesIn D (Endless P) w y = false
+  completesIn D (Counted C P k) w y = eqb y (w + ((C - 1) * P / C - k * P / C) + D)
+  completesIn D (Phased i e l j) w y =
       not (eqb l 0 || neverEnd (after a n i)) && eqb y (w + (1000 * l - j * phaseAt a i .pri) + 1000 * seconds (after a n i))
-  completesIn D (Ending w) y = eqb y w
+  completesIn D Ending w y = eqb y w
 
 -- l seconds are left of a phase of pd seconds at the start of one of its intervals, 0 if it is endless
 pub record Left (p : Phase) (l : ℕ) : Type 0 where
@@ -64,20 +60,17 @@ pub record Waits (w : ℕ) : Type 0 where
   pub some : 1 ≤ w
   pub most : w ≤ 86400000
 
-pub record EndlessGood (S P w : ℕ) : Type 0 where
-  pub waits : Waits w
+pub record EndlessGood (S P : ℕ) : Type 0 where
   pub far : 2 * S ≤ P
   pub most : P ≤ 86400000
 
-pub record CountedGood (S C P k w : ℕ) : Type 0 where
-  pub waits : Waits w
+pub record CountedGood (S C P k : ℕ) : Type 0 where
   pub few : k < C
   pub count : C ≤ 65535
   pub far : 2 * S ≤ P / C
   pub most : P ≤ 86400000
 
-pub record PhasedGood (S : ℕ) (a : List Phase) (n i e l j w : ℕ) : Type 0 where
-  pub waits : Waits w
+pub record PhasedGood (S : ℕ) (a : List Phase) (n i e l j : ℕ) : Type 0 where
   pub few : i < n
   pub eight : n ≤ 8
   pub whole : n ≤ length a
@@ -86,10 +79,10 @@ pub record PhasedGood (S : ℕ) (a : List Phase) (n i e l j w : ℕ) : Type 0 wh
   pub left : Left (phaseAt a i) l
   pub pulse : j < max 1 (pulsesAt (phaseAt a i) e)
 
--- what holds of a tariff that commands can produce, on a line of spacing S
-abbrev pub Good : ℕ → List Phase → ℕ → Tariff → Type 0
-Good S a n Idle = Unit {0}
-Good S a n (Endless P w) = EndlessGood S P w
-Good S a n (Counted C P k w) = CountedGood S C P k w
-Good S a n (Phased i e l j w) = PhasedGood S a n i e l j w
-Good S a n (Ending w) = Waits w
+-- what holds of a tariff that commands can produce, and of its wait, on a line of spacing S
+abbrev pub Good : ℕ → List Phase → ℕ → Tariff → ℕ → Type 0
+Good S a n Idle w = Unit {0}
+Good S a n (Endless P) w = Waits w × EndlessGood S P
+Good S a n (Counted C P k) w = Waits w × CountedGood S C P k
+Good S a n (Phased i e l j) w = Waits w × PhasedGood S a n i e l j
+Good S a n Ending w = Waits w

@@ -13,7 +13,7 @@ use Rattle.slots.specs.Slots.{from}
 use Rattle.slots.proofs.From.{from-past, from-begun}
 use Rattle.slots.proofs.Ahead.{Waits, Good, nextOf, slotsOf, ahead}
 use Rattle.slots.proofs.Agree.{Next, waits, empty, pulse}
-use Rattle.slots.proofs.Step.{none-left}
+use Rattle.slots.proofs.Step.{none-left, past-due}
 use Rattle.slots.proofs.Tick.{step-slot, step-slots, good-step, next-step}
 
 -- after a slot the next one is 2S away or more
@@ -27,41 +27,45 @@ module _ (S : ℕ) (a : List Phase) (n : ℕ) (spaced : 1 ≤ S) where
   one-tick : Waits 1
   one-tick = omega arith
 
-  ahead-apart : (x y : ℕ) (t : Tariff) → Good S a n t → ahead a n t (suc x) ≢ None → ahead a n t (suc y) ≢ None
-      → x < y → x + 2 * S ≤ y
-  ahead-apart zero y t g first second l = omega (arith, far, from-begun (slotsOf a n t′) (nextOf t′) y later)
+  ahead-apart : (x y : ℕ) (t : Tariff) (w : ℕ) → Good S a n t w → ahead a n t w (suc x) ≢ None
+      → ahead a n t w (suc y) ≢ None → x < y → x + 2 * S ≤ y
+  ahead-apart zero y t w g first second l = omega (arith, far, from-begun (slotsOf a n t′) (nextOf t′ w′) y later)
     where
       t′ : Tariff
-      t′ = stepOf 1 a n t .tariff
+      t′ = stepOf 1 a n t w .tariff
 
-      later : ahead a n t′ y ≢ None
-      later e = second (sym (step-slots S 1 a n spaced one-tick t g y l) ∙ e)
+      w′ : ℕ
+      w′ = stepOf 1 a n t w .wait
 
-      far : 2 * S ≤ nextOf t′
+      later : ahead a n t′ w′ y ≢ None
+      later e = second (sym (step-slots S 1 a n spaced one-tick t w g y l) ∙ e)
+
+      far : 2 * S ≤ nextOf t′ w′
       far =
-          next-far (next-step S 1 a n spaced one-tick t g)
-          (λ e. first (step-slot S 1 a n spaced one-tick t g ∙ e))
-          (λ left. later (none-left S a n t′ (good-step S 1 a n spaced one-tick t g) left y))
-  ahead-apart (suc x) zero t g first second l = absurd (omega arith)
-  ahead-apart (suc x) (suc y) t g first second l =
-      let on = step-slots S 1 a n spaced one-tick t g in
+          next-far (next-step S 1 a n spaced one-tick t w g)
+          (λ e. first (step-slot S 1 a n spaced one-tick t w g ∙ e))
+          (λ left. later (none-left S a n t′ w′ (good-step S 1 a n spaced one-tick t w g) left y))
+  ahead-apart (suc x) zero t w g first second l = absurd (omega arith)
+  ahead-apart (suc x) (suc y) t w g first second l =
+      let on = step-slots S 1 a n spaced one-tick t w g in
       omega (
         arith,
-        ahead-apart x y (stepOf 1 a n t .tariff) (good-step S 1 a n spaced one-tick t g)
+        ahead-apart x y (stepOf 1 a n t w .tariff) (stepOf 1 a n t w .wait) (good-step S 1 a n spaced one-tick t w g)
             (λ e. first (sym (on (suc x) (omega arith)) ∙ e))
             (λ e. second (sym (on (suc y) (omega arith)) ∙ e))
             (omega arith),
       )
 
-  -- and so are slots that begin at f, where they are those of a good tariff whose next slot is due
-  pub from-apart : (g : ℕ → Slot) (s : Tariff) → Good S a n s → ((x : ℕ) → ahead a n s (suc x) ≡ g x)
+  -- and so are slots that begin at f, where they are those of a good tariff
+  pub from-apart : (g : ℕ → Slot) (s : Tariff) → Good S a n s 1 → ((x : ℕ) → slotsOf a n s x ≡ g x)
       → (f t u : ℕ) → from f g t ≢ None → from f g u ≢ None → t < u → t + 2 * S ≤ u
   from-apart g s good same f t u first second l =
       let begun = from-begun g f t first in
+      let at : (x : ℕ) → g x ≡ ahead a n s 1 (suc x) = λ x. sym (past-due S a n s 1 good (omega arith) x ∙ same x) in
       omega (
         arith,
-        ahead-apart (t - f) (u - f) s good
-            (λ e. first (from-past g f t begun ∙ sym (same (t - f)) ∙ e))
-            (λ e. second (from-past g f u (omega arith) ∙ sym (same (u - f)) ∙ e))
+        ahead-apart (t - f) (u - f) s 1 good
+            (λ e. first (from-past g f t begun ∙ at (t - f) ∙ e))
+            (λ e. second (from-past g f u (omega arith) ∙ at (u - f) ∙ e))
             (omega arith),
       )

@@ -14,6 +14,7 @@ use Rattle.tariff.specs.Steps.{distanceAfter, afterCounted}
 use Rattle.tariff.specs.declared.Phase.{Phase}
 use Rattle.tariff.specs.declared.Slot.the-variants.{None, Pulse}
 use Rattle.tariff.specs.declared.Tariff.the-variants.{Counted}
+use Rattle.tariff.specs.declared.Waiting.{Waiting}
 use Rattle.slots.specs.Slots.{countedSlot}
 use Rattle.slots.specs.Slots.{from}
 use Rattle.slots.proofs.Order.{by-order, eqb-same}
@@ -25,9 +26,9 @@ use Rattle.slots.proofs.Ahead.{Good, Waits, nextOf, slotsOf, ahead, com
 pub slot-zero : (C P : ℕ) → 0 * P / C ≡ 0
 slot-zero C P = rw (zero-mul P) (zero-div C)
 
-pub counted-start : (a : List Phase) (n C P w x : ℕ) → slotsOf a n (Counted C P 0 w) x ≡ countedSlot C P x
+pub counted-start : (a : List Phase) (n C P x : ℕ) → slotsOf a n (Counted C P 0) x ≡ countedSlot C P x
 unfolding slotsOf
-counted-start a n C P w x = ap (countedSlot C P) (omega (arith, slot-zero C P))
+counted-start a n C P x = ap (countedSlot C P) (omega (arith, slot-zero C P))
 
 -- a later slot is no earlier
 slot-mono : (C P k m : ℕ) → 1 ≤ C → k ≤ m → k * P / C ≤ m * P / C
@@ -71,47 +72,50 @@ counted-next C P k y few l =
     (λ before. counted-none C P k (y + k * P / C) few (omega arith) (λ more. omega arith))
 
 -- it does not complete up to its next slot
-pub counted-open : (D : ℕ) (a : List Phase) (n C P k w y : ℕ) → 1 ≤ D → y ≤ w → completesIn a n D (Counted C P k w) y ≡ false
+pub counted-open : (D : ℕ) (a : List Phase) (n C P k w y : ℕ) → 1 ≤ D → y ≤ w → completesIn a n D (Counted C P k) w y ≡ false
 unfolding completesIn
 counted-open D a n C P k w y lasts l = ne-eqb y (w + ((C - 1) * P / C - k * P / C) + D) (λ e. omega arith)
 
 -- what is ahead once slot k is past
 module _ (D : ℕ) (a : List Phase) (n C P k : ℕ) (few : k < C) where
-  pub counted-rest : (w y : ℕ) → 1 ≤ y → ahead a n (afterCounted D C P k) y ≡ slotsOf a n (Counted C P k w) y
+  abbrev later : Waiting
+  later = afterCounted D C P k
+
+  pub counted-rest : (y : ℕ) → 1 ≤ y → ahead a n (later .tariff) (later .wait) y ≡ slotsOf a n (Counted C P k) y
   unfolding afterCounted slotsOf
-  counted-rest w y l = cases (ltb (k + 1) C) (λ b. rw b (counted-next C P k y few l)) (λ b. rw b (last (ltb-false (k + 1) C b)))
+  counted-rest y l = cases (ltb (k + 1) C) (λ b. rw b (counted-next C P k y few l)) (λ b. rw b (last (ltb-false (k + 1) C b)))
     where
       last : C ≤ k + 1 → from 0 (λ x. None) y ≡ countedSlot C P (y + k * P / C)
       last end =
           from-none (λ x. None) 0 y (λ x. refl)
           ∙ sym (counted-none C P k (y + k * P / C) few (omega arith) (λ more. absurd (omega arith)))
 
-  pub counted-ends : (y : ℕ) → completesIn a n D (afterCounted D C P k) y ≡ completesIn a n D (Counted C P k 1) (suc y)
+  pub counted-ends : (y : ℕ) → completesIn a n D (later .tariff) (later .wait) y ≡ completesIn a n D (Counted C P k) 1 (suc y)
   unfolding afterCounted distanceAfter completesIn
   counted-ends y = cases (ltb (k + 1) C) (λ b. rw b (more (ltb-true (k + 1) C b))) (λ b. rw b (last (ltb-false (k + 1) C b)))
     where
       more : k + 1 < C
-          → completesIn a n D (Counted C P (k + 1) (distanceAfter C P k)) y ≡ completesIn a n D (Counted C P k 1) (suc y)
+          → completesIn a n D (Counted C P (k + 1)) (distanceAfter C P k) y ≡ completesIn a n D (Counted C P k) 1 (suc y)
       more further =
           let here = slot-mono C P k (k + 1) (omega arith) (omega arith) in
           let there = slot-mono C P (k + 1) (C - 1) (omega arith) (omega arith) in
           eqb-same y _ (suc y) _ (omega arith)
 
-      last : C ≤ k + 1 → eqb y D ≡ completesIn a n D (Counted C P k 1) (suc y)
+      last : C ≤ k + 1 → eqb y D ≡ completesIn a n D (Counted C P k) 1 (suc y)
       last end =
           let e : C - 1 ≡ k = omega arith in
           rw e (eqb-same y D (suc y) _ (omega arith))
 
   module _ (S : ℕ) (spaced : 1 ≤ S) (far : 2 * S ≤ P / C) where
-    pub counted-good : Waits D → C ≤ 65535 → P ≤ 86400000 → Good S a n (afterCounted D C P k)
+    pub counted-good : Waits D → C ≤ 65535 → P ≤ 86400000 → Good S a n (later .tariff) (later .wait)
     unfolding afterCounted distanceAfter
     counted-good waits count most =
         let next = slot-next C P k (omega arith) in
         cases (ltb (k + 1) C)
-        (λ b. rw b (record { waits = omega arith; few = ltb-true (k + 1) C b; count = count; far = far; most = most }))
+        (λ b. rw b (let more = ltb-true (k + 1) C b in omega arith))
         (λ b. rw b waits)
 
-    pub counted-far : nextOf (afterCounted D C P k) ≢ 0 → 2 * S ≤ nextOf (afterCounted D C P k)
+    pub counted-far : nextOf (later .tariff) (later .wait) ≢ 0 → 2 * S ≤ nextOf (later .tariff) (later .wait)
     unfolding afterCounted distanceAfter
     counted-far =
         let next = slot-next C P k (omega arith) in

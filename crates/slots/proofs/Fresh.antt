@@ -21,12 +21,12 @@ use Rattle.slots.proofs.Step.{none-left}
 
 module _ (D : ℕ) (a : List Phase) (n : ℕ) where
   -- nothing runs
-  pub agree-idle : (i : ℕ) → Agree D a n nothing Idle i
+  pub agree-idle : (w i : ℕ) → Agree D a n nothing Idle w i
   unfolding slotAt completesAt completesIn
-  agree-idle i = record { slots = λ y l. sym (none-left 0 a n Idle tt refl y); ends = λ y l. refl; rate = other refl refl }
+  agree-idle w i = record { slots = λ y l. sym (none-left 0 a n Idle w tt refl y); ends = λ y l. refl; rate = other refl refl }
 
   -- an em whose origin is w ticks away
-  pub agree-em : (C P i w : ℕ) → 1 ≤ w → Agree D a n (emAt (i + w) C P) (emOf C P w) i
+  pub agree-em : (C P i w : ℕ) → 1 ≤ w → Agree D a n (emAt (i + w) C P) (emOf C P) w i
   unfolding emOf slotAt slotsOf completesAt completesIn
   agree-em zero P i w l =
       record {
@@ -36,21 +36,21 @@ module _ (D : ℕ) (a : List Phase) (n : ℕ) where
       }
   agree-em (suc c) P i w l =
       let C = suc c in
-      let same = counted-start a n C P w in
+      let same = counted-start a n C P in
       record {
-        slots = λ y _. from-same (countedSlot C P) (slotsOf a n (Counted C P 0 w)) (i + w) (i + y) w y same (omega arith);
+        slots = λ y _. from-same (countedSlot C P) (slotsOf a n (Counted C P 0)) (i + w) (i + y) w y same (omega arith);
         ends = λ y _. eqb-same (i + y) _ y _ (omega (arith, slot-zero C P));
         rate = other refl refl;
       }
 
   -- the first n phases, whose origin is w ticks away
-  pub agree-phased : 1 ≤ n → n ≤ 8 → n ≤ length a → (i w : ℕ) → 1 ≤ w → Agree D a n (phased (i + w) (take n a)) (phasedOf a w) i
+  pub agree-phased : 1 ≤ n → n ≤ 8 → n ≤ length a → (i w : ℕ) → 1 ≤ w → Agree D a n (phased (i + w) (take n a)) (phasedOf a) w i
   unfolding phasedOf slotAt completesAt
   agree-phased some eight whole i w l =
       let ps = take n a in
-      let same = phased-start a n w some eight whole in
+      let same = phased-start a n some eight whole in
       record {
-        slots = λ y _. from-same (phasedSlot ps) (slotsOf a n (phasedOf a w)) (i + w) (i + y) w y same (omega arith);
+        slots = λ y _. from-same (phasedSlot ps) (slotsOf a n (phasedOf a)) (i + w) (i + y) w y same (omega arith);
         ends =
             λ y _. ap (λ (b : Bool). not (neverEnd ps) && b) (eqb-same (i + y) _ y _ (omega arith))
             ∙ sym (phased-start-ends a n w D some eight whole y);

@@ -21,8 +21,7 @@ use Rattle.slots.proofs.Order.{by-order, by-equal}
 use Rattle.slots.proofs.Ahead.{slotsOf}
 use Rattle.slots.proofs.Counted.{counted-start}
 use Rattle.slots.proofs.Phased.{phased-start, phased-start-good}
-use Rattle.slots.proofs.Step.{past-due}
-use Rattle.slots.proofs.Start.{good-em, next-phased}
+use Rattle.slots.proofs.Start.{good-em}
 use Rattle.slots.proofs.Apart.{from-apart}
 
 -- a running tariff that was accepted on a line of spacing S
@@ -38,19 +37,19 @@ pub slots-apart : (S : ℕ) (r : Running) (t u : ℕ) → 1 ≤ S → Sound S r 
 unfolding slotAt slotsOf emOf
 slots-apart S r t u spaced idle first second l = absurd (first refl)
 slots-apart S r t u spaced (endless-em f P ok) first second l =
-    from-apart S [] 0 spaced (endlessSlot P) (Endless P 1) (good-em S [] 0 0 P 1 ok (omega arith))
-    (λ x. sym (past-due [] 0 (Endless P 1) x refl)) f t u first second l
+    from-apart S [] 0 spaced (endlessSlot P) (Endless P) (good-em S [] 0 0 P 1 ok (omega arith)) (λ x. refl) f t u first
+    second l
 slots-apart S r t u spaced (counted-em f zero P some ok) first second l = absurd (omega arith)
 slots-apart S r t u spaced (counted-em f (suc c) P some ok) first second l =
-    from-apart S [] 0 spaced (countedSlot (suc c) P) (Counted (suc c) P 0 1) (good-em S [] 0 (suc c) P 1 ok (omega arith))
-    (λ x. sym (past-due [] 0 (Counted (suc c) P 0 1) x refl) ∙ counted-start [] 0 (suc c) P 1 x) f t u first second l
+    from-apart S [] 0 spaced (countedSlot (suc c) P) (Counted (suc c) P 0) (good-em S [] 0 (suc c) P 1 ok (omega arith))
+    (counted-start [] 0 (suc c) P) f t u first second l
 slots-apart S r t u spaced (phases f ps some eight ok) first second l =
     let n = length ps in
     let whole = le-refl n in
-    let start = phased-start ps n 1 some eight whole in
-    from-apart S ps n spaced (phasedSlot ps) (phasedOf ps 1)
+    let start = phased-start ps n some eight whole in
+    from-apart S ps n spaced (phasedSlot ps) (phasedOf ps)
     (phased-start-good S ps n 1 spaced some eight whole (rw (take-length ps) ok) (omega arith))
-    (λ x. sym (past-due ps n (phasedOf ps 1) x (next-phased ps 1)) ∙ rw (take-length ps) at (start x)) f t u first second l
+    (λ x. rw (take-length ps) at (start x)) f t u first second l
 
 -- the next slot past tick t is at tick u: the least later tick with a slot, an empty one too
 pub record NextSlot (r : Running) (t u : ℕ) : Type 0 where

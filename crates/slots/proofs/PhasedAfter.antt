@@ -7,20 +7,20 @@ use native.Mathlib.Omega.{arith}
 use borrow.Author.Tests.{ltb-true, ltb-false}
 use borrow.Table.Steps.{cases}
 use lib.Dec.{eqb, ltb, eqb·suc-zero}
-use Rattle.tariff.specs.Steps.{phaseAt, nextEntry, afterPhase, afterInterval, afterPhased}
+use Rattle.tariff.specs.Steps.{phaseAt, nextEntry, waiting, afterPhase, afterInterval, afterPhased}
 use Rattle.tariff.specs.declared.Phase.{Phase}
-use Rattle.tariff.specs.declared.Tariff.{Tariff}
 use Rattle.tariff.specs.declared.Tariff.the-variants.{Phased, Ending}
+use Rattle.tariff.specs.declared.Waiting.{Waiting}
 
 -- after slot j of an interval of m pulses of phase i, which is p: the next slot of the interval, the next interval of the
 -- phase, the next phase, or none
-pub data AfterSlot (a : List Phase) (n i e l j : ℕ) (p : Phase) (m : ℕ) : Tariff → Type 0 where
-  next-slot : suc j < m → AfterSlot a n i e l j p m (Phased i e l (j + 1) (p .pri))
+pub data AfterSlot (a : List Phase) (n i e l j : ℕ) (p : Phase) (m : ℕ) : Waiting → Type 0 where
+  next-slot : suc j < m → AfterSlot a n i e l j p m (waiting (Phased i e l (j + 1)) (p .pri))
   next-interval : m ≤ suc j → (1 ≤ l → p .ci < l)
-      → AfterSlot a n i e l j p m (Phased i (nextEntry p e) (l - p .ci) 0 (1000 * p .ci - j * p .pri))
+      → AfterSlot a n i e l j p m (waiting (Phased i (nextEntry p e) (l - p .ci) 0) (1000 * p .ci - j * p .pri))
   next-phase : m ≤ suc j → 1 ≤ l → l ≤ p .ci → i + 1 < n
-      → AfterSlot a n i e l j p m (Phased (i + 1) 0 (phaseAt a (i + 1) .pd) 0 (1000 * l - j * p .pri))
-  no-phase : m ≤ suc j → 1 ≤ l → l ≤ p .ci → n ≤ i + 1 → AfterSlot a n i e l j p m (Ending (1000 * l - j * p .pri))
+      → AfterSlot a n i e l j p m (waiting (Phased (i + 1) 0 (phaseAt a (i + 1) .pd) 0) (1000 * l - j * p .pri))
+  no-phase : m ≤ suc j → 1 ≤ l → l ≤ p .ci → n ≤ i + 1 → AfterSlot a n i e l j p m (waiting Ending (1000 * l - j * p .pri))
 
 more : (l c : ℕ) → (eqb l 0 || ltb c l) ≡ true → 1 ≤ l → c < l
 more zero c t some = absurd (omega arith)

@@ -8,8 +8,8 @@ use borrow.Author.Tests.{ne-eqb}
 use lib.Dec.{eqb, eqb·suc-zero}
 use Rattle.tariff.specs.Steps.{phaseAt, pulsesAt}
 use Rattle.tariff.specs.declared.Phase.{Phase}
-use Rattle.tariff.specs.declared.Tariff.{Tariff}
 use Rattle.tariff.specs.declared.Tariff.the-variants.{Phased}
+use Rattle.tariff.specs.declared.Waiting.{Waiting}
 use Rattle.slots.specs.Slots.{neverEnd, seconds}
 use Rattle.tariff.proofs.PhasedList.{after, after-split, after-last}
 use Rattle.slots.proofs.Order.{eqb-same}
@@ -30,15 +30,15 @@ not-yet zero never y v before = refl
 not-yet (suc l) never y v before =
     rw (ne-eqb y v (λ same. absurd (omega (arith, before (omega arith))))) (and-false (not (eqb (suc l) 0 || never)))
 
-module _ (S : ℕ) (a : List Phase) (n i e l j w D : ℕ) (good : PhasedGood S a n i e l j w) (y : ℕ) where
+module _ (S : ℕ) (a : List Phase) (n i e l j D : ℕ) (good : PhasedGood S a n i e l j) (y : ℕ) where
   abbrev p : Phase
   p = phaseAt a i
 
   abbrev room : Room S p e l j
-  room = room-of S a n i e l j w good
+  room = room-of S a n i e l j good
 
-  pub ends-after : {t : Tariff} → AfterSlot a n i e l j p (pulsesAt p e) t
-      → completesIn a n D t y ≡ completesIn a n D (Phased i e l j 1) (suc y)
+  pub ends-after : {x : Waiting} → AfterSlot a n i e l j p (pulsesAt p e) x
+      → completesIn a n D (x .tariff) (x .wait) y ≡ completesIn a n D (Phased i e l j) 1 (suc y)
   unfolding completesIn neverEnd seconds
   ends-after (next-slot more) =
       same-end l l (neverEnd (after a n i)) y _ _ (λ none. none) (λ some. some) (λ some. omega (arith, room .phase some))
@@ -53,8 +53,8 @@ module _ (S : ℕ) (a : List Phase) (n i e l j w D : ℕ) (good : PhasedGood S a
       rw (after-last a n i end, ne-eqb l 0 (λ none. absurd (omega arith)))
       (eqb-same y (1000 * l - j * p .pri) (suc y) (1 + (1000 * l - j * p .pri) + 0) (omega arith))
 
-  pub open-before : y ≤ w → completesIn a n D (Phased i e l j w) y ≡ false
+  pub open-before : (w : ℕ) → y ≤ w → completesIn a n D (Phased i e l j) w y ≡ false
   unfolding completesIn
-  open-before h =
+  open-before w h =
       not-yet l (neverEnd (after a n i)) y _
       (λ some. omega (arith, slot-before j (p .pri) (1000 * l) (room .phase some) (omega arith)))

@@ -1,12 +1,13 @@
 -- After a slot a phased tariff is good again, and its next slot is far enough.
-use mathlib.Core.Path.{_≡_, refl, sym, _∙_}
+use mathlib.Core.Path.{refl, sym, _∙_}
 use mathlib.Core.List.{List}
+use mathlib.Core.Logic.{_≢_}
 use Prim.Native.Nat.{ℕ, zero, suc, _+_, _-_, _*_, max, _≤_, _<_}
 use native.Mathlib.Nat.{mod-eq-sub-mod, zero-sub}
 use native.Mathlib.Omega.{arith}
 use Rattle.tariff.specs.Steps.{phaseAt, pulsesAt}
 use Rattle.tariff.specs.declared.Phase.{Phase}
-use Rattle.tariff.specs.declared.Tariff.{Tariff}
+use Rattle.tariff.specs.declared.Waiting.{Waiting}
 use Rattle.slots.proofs.Ahead.{nextOf, Left, Waits, PhasedGood, Good}
 use Rattle.slots.proofs.PhasedEntry.{entries, next-entry}
 use Rattle.slots.proofs.PhasedSound.{sound-at}
@@ -35,19 +36,18 @@ left-next p (suc l) left more =
 waits-after : (S q j ticks : ℕ) → 1 ≤ S → 2 * S ≤ q → suc j * q ≤ ticks → ticks ≤ 86400000 → Waits (ticks - j * q)
 waits-after S q j ticks spaced far room most = record { some = omega arith; most = omega arith }
 
-module _ (S : ℕ) (a : List Phase) (n i e l j w : ℕ) (spaced : 1 ≤ S) (good : PhasedGood S a n i e l j w) where
+module _ (S : ℕ) (a : List Phase) (n i e l j : ℕ) (spaced : 1 ≤ S) (good : PhasedGood S a n i e l j) where
   abbrev p : Phase
   p = phaseAt a i
 
   abbrev room : Room S p e l j
-  room = room-of S a n i e l j w good
+  room = room-of S a n i e l j good
 
   -- the list of phases stays
-  moved : (i e l j w : ℕ) → Waits w → i < n → e < entries (phaseAt a i) → Left (phaseAt a i) l → j < max 1 (pulsesAt (phaseAt a i) e)
-      → PhasedGood S a n i e l j w
-  moved i e l j w waits few entry left pulse =
+  moved : (i e l j : ℕ) → i < n → e < entries (phaseAt a i) → Left (phaseAt a i) l → j < max 1 (pulsesAt (phaseAt a i) e)
+      → PhasedGood S a n i e l j
+  moved i e l j few entry left pulse =
       record {
-        waits = waits;
         few = few;
         eight = good .eight;
         whole = good .whole;
@@ -61,20 +61,22 @@ module _ (S : ℕ) (a : List Phase) (n i e l j w : ℕ) (spaced : 1 ≤ S) (good
   last-waits some short =
       waits-after S (p .pri) j (1000 * l) spaced (room .sound .far) (room .phase some) (omega (arith, room .sound .day))
 
-  pub good-after : {t : Tariff} → AfterSlot a n i e l j p (pulsesAt p e) t → Good S a n t
-  good-after (next-slot more) =
-      moved i e l (j + 1) (p .pri) (record { some = omega (arith, room .sound .far); most = room .sound .near })
-      (good .few) (good .entry) (good .left) (omega arith)
-  good-after (next-interval last more) =
-      moved i _ (l - p .ci) 0 _
-      (waits-after S (p .pri) j (1000 * p .ci) spaced (room .sound .far) (room .interval) (omega (arith, room .sound .day)))
-      (good .few) (next-entry p e (good .entry)) (left-next p l (good .left) more) (omega arith)
+  pub good-after : {x : Waiting} → AfterSlot a n i e l j p (pulsesAt p e) x → Good S a n (x .tariff) (x .wait)
+  good-after (next-slot more) = (
+    record { some = omega (arith, room .sound .far); most = room .sound .near },
+    moved i e l (j + 1) (good .few) (good .entry) (good .left) (omega arith),
+  )
+  good-after (next-interval last more) = (
+    waits-after S (p .pri) j (1000 * p .ci) spaced (room .sound .far) (room .interval) (omega (arith, room .sound .day)),
+    moved i _ (l - p .ci) 0 (good .few) (next-entry p e (good .entry)) (left-next p l (good .left) more) (omega arith),
+  )
   good-after (next-phase last some short further) =
-      moved (i + 1) 0 (phaseAt a (i + 1) .pd) 0 _ (last-waits some short) further
-      (sound-at S a n (i + 1) further (good .eight) (good .whole) (good .sound) .entry) (left-whole (phaseAt a (i + 1))) (omega arith)
+      let sound = sound-at S a n (i + 1) further (good .eight) (good .whole) (good .sound) in
+      (last-waits some short, moved (i + 1) 0 _ 0 further (sound .entry) (left-whole (phaseAt a (i + 1))) (omega arith))
   good-after (no-phase last some short end) = last-waits some short
 
-  pub far-after : {t : Tariff} → AfterSlot a n i e l j p (pulsesAt p e) t → (nextOf t ≡ 0 → ⊥) → 2 * S ≤ nextOf t
+  pub far-after : {x : Waiting} → AfterSlot a n i e l j p (pulsesAt p e) x → nextOf (x .tariff) (x .wait) ≢ 0
+      → 2 * S ≤ nextOf (x .tariff) (x .wait)
   far-after (next-slot more) some = room .sound .far
   far-after (next-interval last more) some = omega (arith, room .sound .far, room .interval)
   far-after (next-phase last runs short further) some = omega (arith, room .sound .far, room .phase runs)

@@ -10,8 +10,8 @@ use Rattle.tariff.specs.Steps.{phaseAt, pulsesAt, nextEntry}
 use Rattle.tariff.specs.declared.Phase.{Phase}
 use Rattle.tariff.specs.declared.Slot.{Slot}
 use Rattle.tariff.specs.declared.Slot.the-variants.{None, Empty, Pulse}
-use Rattle.tariff.specs.declared.Tariff.{Tariff}
 use Rattle.tariff.specs.declared.Tariff.the-variants.{Phased}
+use Rattle.tariff.specs.declared.Waiting.{Waiting}
 use Rattle.slots.specs.Slots.{intervalSlot, phasedSlot}
 use Rattle.tariff.proofs.PhasedList.{after, after-split, after-last}
 use Rattle.slots.proofs.Ahead.{phasesFrom, slotsOf, ahead, PhasedGood}
@@ -40,22 +40,22 @@ module _ (S : ℕ) (p : Phase) (ps : List Phase) (e l j : ℕ) (room : Room S p 
 
 -- ---- after slot j
 
-module _ (S : ℕ) (a : List Phase) (n i e l j w : ℕ) (good : PhasedGood S a n i e l j w) (y : ℕ) (later : 1 ≤ y) where
+module _ (S : ℕ) (a : List Phase) (n i e l j : ℕ) (good : PhasedGood S a n i e l j) (y : ℕ) (later : 1 ≤ y) where
   abbrev p : Phase
   p = phaseAt a i
 
   abbrev room : Room S p e l j
-  room = room-of S a n i e l j w good
+  room = room-of S a n i e l j good
 
   abbrev slot : Slot
-  slot = slotsOf a n (Phased i e l j w) y
+  slot = slotsOf a n (Phased i e l j) y
 
   quiet : (suc j < pulsesAt p e → y < p .pri) → y + j * p .pri < 1000 * p .ci → (1 ≤ l → y + j * p .pri < 1000 * l) → slot ≡ None
   unfolding slotsOf
   quiet next h lasts = slot-none S p (after a n i) e l j room (y + j * p .pri) (omega arith) (λ m. omega (arith, next m)) h lasts
 
   of-next-interval : (wait : ℕ) → wait + j * p .pri ≡ 1000 * p .ci → (1 ≤ l → p .ci < l) → wait ≤ y
-      → slotsOf a n (Phased i (nextEntry p e) (l - p .ci) 0 wait) (y - wait) ≡ slot
+      → slotsOf a n (Phased i (nextEntry p e) (l - p .ci) 0) (y - wait) ≡ slot
   unfolding slotsOf
   of-next-interval wait end more past =
       ap (phasesFrom p (after a n i) (nextEntry p e) (l - p .ci)) (omega arith)
@@ -66,7 +66,7 @@ module _ (S : ℕ) (a : List Phase) (n i e l j w : ℕ) (good : PhasedGood S a n
   of-later-phases some over = slots.phase-over p (after a n i) e l (y + j * p .pri) some over
 
   of-next-phase : (wait : ℕ) → wait + j * p .pri ≡ 1000 * l → 1 ≤ l → i + 1 < n → wait ≤ y
-      → slotsOf a n (Phased (i + 1) 0 (phaseAt a (i + 1) .pd) 0 wait) (y - wait) ≡ slot
+      → slotsOf a n (Phased (i + 1) 0 (phaseAt a (i + 1) .pd) 0) (y - wait) ≡ slot
   unfolding slotsOf
   of-next-phase wait end some further past =
       let q = phaseAt a (i + 1) in
@@ -82,20 +82,20 @@ module _ (S : ℕ) (a : List Phase) (n i e l j w : ℕ) (good : PhasedGood S a n
       of-later-phases some over ∙ ap (λ ps. phasedSlot ps (y + j * p .pri - 1000 * l)) (after-last a n i end)
   of-no-phase last some short end (no before) = quiet (λ m. absurd (omega arith)) (omega arith) (λ s. omega arith)
 
-  pub rest-after : {t : Tariff} → AfterSlot a n i e l j p (pulsesAt p e) t → ahead a n t y ≡ slot
+  pub rest-after : {x : Waiting} → AfterSlot a n i e l j p (pulsesAt p e) x → ahead a n (x .tariff) (x .wait) y ≡ slot
   unfolding slotsOf
   rest-after (next-slot more) =
-      from-is (slotsOf a n (Phased i e l (j + 1) (p .pri))) (p .pri) y slot
+      from-is (slotsOf a n (Phased i e l (j + 1))) (p .pri) y slot
       (λ past. ap (phasesFrom p (after a n i) e l) (omega arith))
       (λ before. quiet (λ m. before) (omega (arith, room .interval)) (λ some. omega (arith, room .phase some)))
   rest-after (next-interval last more) =
       let wait = 1000 * p .ci - j * p .pri in
-      from-is (slotsOf a n (Phased i (nextEntry p e) (l - p .ci) 0 wait)) wait y slot
+      from-is (slotsOf a n (Phased i (nextEntry p e) (l - p .ci) 0)) wait y slot
       (λ past. of-next-interval wait (omega (arith, room .interval)) more past)
       (λ before. quiet (λ m. absurd (omega arith)) (omega (arith, room .interval)) (λ some. omega (arith, more some)))
   rest-after (next-phase last some short further) =
       let wait = 1000 * l - j * p .pri in
-      from-is (slotsOf a n (Phased (i + 1) 0 (phaseAt a (i + 1) .pd) 0 wait)) wait y slot
+      from-is (slotsOf a n (Phased (i + 1) 0 (phaseAt a (i + 1) .pd) 0)) wait y slot
       (λ past. of-next-phase wait (omega (arith, room .phase some)) some further past)
       (λ before. quiet (λ m. absurd (omega arith)) (omega arith) (λ s. omega arith))
   rest-after (no-phase last some short end) =

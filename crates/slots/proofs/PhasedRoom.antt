@@ -39,8 +39,8 @@ pub record Room (S : ℕ) (p : Phase) (e l j : ℕ) : Type 0 where
   pub interval : suc j * p .pri ≤ 1000 * p .ci
   pub phase : 1 ≤ l → suc j * p .pri ≤ 1000 * l
 
-pub room-of : (S : ℕ) (a : List Phase) (n i e l j w : ℕ) → PhasedGood S a n i e l j w → Room S (phaseAt a i) e l j
-room-of S a n i e l j w good =
+pub room-of : (S : ℕ) (a : List Phase) (n i e l j : ℕ) → PhasedGood S a n i e l j → Room S (phaseAt a i) e l j
+room-of S a n i e l j good =
     let p = phaseAt a i in
     let sound = sound-at S a n i (good .few) (good .eight) (good .whole) (good .sound) in
     let pulses = entry-pulses p e (sound .hundred) (good .entry) in

@@ -32,34 +32,34 @@ sound-em S C P ok =
 
 module _ (S : ℕ) (a : List Phase) (n : ℕ) where
   -- an em that is accepted
-  pub good-em : (C P w : ℕ) → soundEm S C P ≡ true → Waits w → Good S a n (emOf C P w)
+  pub good-em : (C P w : ℕ) → soundEm S C P ≡ true → Waits w → Good S a n (emOf C P) w
   unfolding emOf distanceOf
   good-em zero P w ok waits = omega (arith, waits, sound-em S zero P ok)
   good-em (suc c) P w ok waits = omega (arith, waits, sound-em S (suc c) P ok)
 
   -- a rate that is accepted
-  pub good-rate : (P : ℕ) (t : Tariff) → soundEm S 0 P ≡ true → Good S a n t → Good S a n (rateOf P t)
+  pub good-rate : (P : ℕ) (t : Tariff) (w : ℕ) → soundEm S 0 P ≡ true → Good S a n t w → Good S a n (rateOf P t) w
   unfolding emOf rateOf
-  good-rate P Idle ok g = g
-  good-rate P (Endless Q w) ok g = good-em 0 P w ok (g .waits)
-  good-rate P (Counted C Q k w) ok g = g
-  good-rate P (Phased i e l j w) ok g = g
-  good-rate P (Ending w) ok g = g
+  good-rate P Idle w ok g = g
+  good-rate P (Endless Q) w ok g = good-em 0 P w ok (g .0)
+  good-rate P (Counted C Q k) w ok g = g
+  good-rate P (Phased i e l j) w ok g = g
+  good-rate P Ending w ok g = g
 
 -- the next slot of a fresh tariff is at its origin, and a rate leaves it
-pub next-em : (C P w : ℕ) → nextOf (emOf C P w) ≡ w
+pub next-em : (C P w : ℕ) → nextOf (emOf C P) w ≡ w
 unfolding emOf
 next-em zero P w = refl
 next-em (suc c) P w = refl
 
-pub next-phased : (a : List Phase) (w : ℕ) → nextOf (phasedOf a w) ≡ w
+pub next-phased : (a : List Phase) (w : ℕ) → nextOf (phasedOf a) w ≡ w
 unfolding phasedOf
 next-phased a w = refl
 
-pub next-rate : (P : ℕ) (t : Tariff) → nextOf (rateOf P t) ≡ nextOf t
+pub next-rate : (P : ℕ) (t : Tariff) (w : ℕ) → nextOf (rateOf P t) w ≡ nextOf t w
 unfolding rateOf
-next-rate P Idle = refl
-next-rate P (Endless Q w) = refl
-next-rate P (Counted C Q k w) = refl
-next-rate P (Phased i e l j w) = refl
-next-rate P (Ending w) = refl
+next-rate P Idle w = refl
+next-rate P (Endless Q) w = refl
+next-rate P (Counted C Q k) w = refl
+next-rate P (Phased i e l j) w = refl
+next-rate P Ending w = refl

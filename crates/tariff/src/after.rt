@@ -1,9 +1,10 @@
-// The tariff after a slot.
+// The tariff after a slot, and the ticks to what comes next.
 ghost use mathlib.Core.Path.{_≡_};
 ghost use Prim.Native.Nat.{_-_, _*_, _<_};
 ghost use Rattle.tariff.specs.Steps.{distanceAfter, afterCounted, afterPhase, afterInterval, afterPhased};
 use super::Phase;
 use super::Tariff;
+use super::Waiting;
 use super::numbers;
 use super::phases;
 
@@ -18,37 +19,47 @@ fn distance_after(count: u32, period: u32, k: u32) -> u64
 }
 
 // After slot k of an em with C > 0: slot k + 1, or the end of the last pulse.
-pub(crate) fn after_counted(pulse: u32, count: u32, period: u32, k: u32) -> Tariff
+pub(crate) fn after_counted(pulse: u32, count: u32, period: u32, k: u32) -> Waiting
     ensures { λ r. ⌜ r ≡ afterCounted pulse count period k ⌝ }
 {
     if k as u64 + 1 < count as u64 {
-        Tariff::Counted {
-            count,
-            period,
-            next: k + 1,
+        Waiting {
+            tariff: Tariff::Counted {
+                count,
+                period,
+                next: k + 1,
+            },
             wait: distance_after(count, period, k),
         }
     } else {
-        Tariff::Ending { wait: pulse as u64 }
+        Waiting {
+            tariff: Tariff::Ending,
+            wait: pulse as u64,
+        }
     }
 }
 
 // After the last interval of phase i, which ends in `wait` ticks: the next phase, if there is one.
-fn after_phase(phases: [Phase; 8], count: u32, i: u32, wait: u64) -> Tariff
+fn after_phase(phases: [Phase; 8], count: u32, i: u32, wait: u64) -> Waiting
     ensures { λ r. ⌜ r ≡ afterPhase phases count i wait ⌝ }
 {
     if i as u64 + 1 < count as u64 {
         let next = i + 1;
         let p = phases::phase_at(phases, next);
-        Tariff::Phased {
-            phase: next,
-            entry: 0,
-            left: p.pd,
-            pulse: 0,
+        Waiting {
+            tariff: Tariff::Phased {
+                phase: next,
+                entry: 0,
+                left: p.pd,
+                pulse: 0,
+            },
             wait,
         }
     } else {
-        Tariff::Ending { wait }
+        Waiting {
+            tariff: Tariff::Ending,
+            wait,
+        }
     }
 }
 
@@ -70,16 +81,18 @@ fn after_interval(
     left: u32,
     j: u32,
     p: Phase,
-) -> Tariff
+) -> Waiting
     ensures { λ r. ⌜ r ≡ afterInterval phases count i entry left j p ⌝ }
 {
     // An endless phase goes on, and so does one with seconds left after this interval.
     if (left == 0) | (p.ci < left) {
-        Tariff::Phased {
-            phase: i,
-            entry: p.next_entry(entry),
-            left: numbers::minus(left, p.ci),
-            pulse: 0,
+        Waiting {
+            tariff: Tariff::Phased {
+                phase: i,
+                entry: p.next_entry(entry),
+                left: numbers::minus(left, p.ci),
+                pulse: 0,
+            },
             wait: ticks_left(p.ci, j, p.pri),
         }
     } else {
@@ -97,15 +110,17 @@ pub(crate) fn after_phased(
     j: u32,
     p: Phase,
     m: u32,
-) -> Tariff
+) -> Waiting
     ensures { λ r. ⌜ r ≡ afterPhased phases count i entry left j p m ⌝ }
 {
     if j as u64 + 1 < m as u64 {
-        Tariff::Phased {
-            phase: i,
-            entry,
-            left,
-            pulse: j + 1,
+        Waiting {
+            tariff: Tariff::Phased {
+                phase: i,
+                entry,
+                left,
+                pulse: j + 1,
+            },
             wait: p.pri as u64,
         }
     } else {

@@ -27,20 +27,18 @@ pub enum Slot {
     Pulse,
 }
 
-// A tariff by its next slot: `wait` is the ticks to it.
+// Where a tariff stands. The ticks to its next slot, or to its completion where it is ending, are kept beside it.
 pub enum Tariff {
     Idle,
     // An em with C = 0.
     Endless {
         interval: u32,
-        wait: u64,
     },
     // An em with C > 0, before slot `next`.
     Counted {
         count: u32,
         period: u32,
         next: u32,
-        wait: u64,
     },
     // Before slot `pulse` of a charge interval: its phase, its map entry, and the seconds of the phase from its
     // start on, 0 in an endless phase. An entry counts up to repx + repn, which 32 bits may not hold.
@@ -49,17 +47,21 @@ pub enum Tariff {
         entry: u64,
         left: u32,
         pulse: u32,
-        wait: u64,
     },
-    // No slot is left, and `wait` is the ticks to the completion.
-    Ending {
-        wait: u64,
-    },
+    // No slot is left.
+    Ending,
 }
 
-// A tariff one tick on, and what that tick has.
+// A tariff, and the ticks to its next slot or to its completion.
+pub struct Waiting {
+    pub tariff: Tariff,
+    pub wait: u64,
+}
+
+// A tariff one tick on, the ticks to its next slot or to its completion, and what that tick has.
 pub struct Stepped {
     pub tariff: Tariff,
+    pub wait: u64,
     pub slot: Slot,
     pub complete: bool,
 }

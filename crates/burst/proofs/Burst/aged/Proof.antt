@@ -1,34 +1,25 @@
 -- `Burst::aged` meets its contract.
 use Rattle.burst.specs.Bursts.{agedOf}
-use Rattle.burst.proofs.Burst.aged.Statement.{statement}
 use borrow.Author.Needs.{needs}
+use Rattle.burst.proofs.Burst.aged.Statement.{statement}
 use Rattle.burst.proofs.Burst.aged.Tie as tie
 
-enum-told : tie.Need-enum-told
-enum-told c = search needs
+completes-requires : tie.Need-completes-requires
+completes-requires c κs = search needs
 
-enum-known-self : tie.Need-enum-known-self
-enum-known-self c = search needs
+none-requires : tie.Need-none-requires
+none-requires c κs = search needs
 
-held-more-requires : tie.Need-held-more-requires
-held-more-requires c κs = search needs
+older-requires : tie.Need-older-requires
+older-requires c κs = search needs
 
 returns : tie.Need-returns
 unfolding agedOf
-returns c = rw (c .enum-told .given .1)
+returns c = rw (c .none .ensures, ← c .before .before .completes .ensures, c .before .if1 .taken)
 
 returns-2 : tie.Need-returns-2
 unfolding agedOf
-returns-2 c =
-    let h = c .before in
-    rw (h .before .before .self .given .1, ← h .held-more .ensures, c .if1 .taken)
-
-returns-3 : tie.Need-returns-3
-unfolding agedOf
-returns-3 c =
-    let h = c .before in
-    rw (h .before .before .self .given .1, ← h .held-more .ensures, c .if1 .left)
+returns-2 c = rw (c .older .ensures, ← c .before .before .completes .ensures, c .before .if1 .left)
 
 pub aged-spec : {M : Type 1} → statement M
-aged-spec =
-    tie.close (tie.spec enum-told enum-known-self held-more-requires returns returns-2 returns-3)
+aged-spec = tie.close (tie.spec completes-requires none-requires older-requires returns returns-2)

@@ -1,6 +1,6 @@
 -- `Line::audit` meets its contract.
-use mathlib.Core.Path.{refl}
 use Rattle.line.specs.Lines.{auditOf}
+use mathlib.Core.Path.{refl}
 use Rattle.line.proofs.Line.audit.Statement.{statement}
 use Rattle.line.proofs.Line.audit.Tie as tie
 

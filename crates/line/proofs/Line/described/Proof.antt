@@ -12,9 +12,6 @@ enum-known-ruling c = search needs
 enum-told : tie.Need-enum-told
 enum-told c = search needs
 
-owed-requires : tie.Need-owed-requires
-owed-requires c κs = search needs
-
 cancelled-by-requires : tie.Need-cancelled-by-requires
 cancelled-by-requires c κs = search needs
 
@@ -29,10 +26,9 @@ returns c = rw (← c .before .before .before .ruling .ensures, c .before .rulin
 
 returns-2 : tie.Need-returns-2
 returns-2 c =
-    let t = c .before in
-    let k = t .before in
-    let o = k .before in
-    rw (← o .before .before .before .ruling .ensures, o .before .enum-told .given .1, ← t .with-tariff-part .ensures, ← o .owed .ensures, k .cancelled-by .ensures, c .with-burst-part .ensures)
+    let k = c .before .before in
+    let o = k .before .before .before in
+    rw (← o .before .before .ruling .ensures, o .enum-told .given .1, ← c .before .with-tariff-part .ensures, k .cancelled-by .ensures, c .with-burst-part .ensures)
 
 pub described-spec : {M : Type 1} → statement M
 described-spec =
@@ -41,7 +37,6 @@ described-spec =
     ruling-requires
     enum-known-ruling
     enum-told
-    owed-requires
     cancelled-by-requires
     with-tariff-part-requires
     with-burst-part-requires

@@ -1,7 +1,7 @@
 -- `Line::hook` meets its contract.
 use Rattle.line.specs.Lines.{hookOf}
-use Rattle.line.proofs.Line.hook.Statement.{statement}
 use borrow.Author.Needs.{needs}
+use Rattle.line.proofs.Line.hook.Statement.{statement}
 use Rattle.line.proofs.Line.hook.Tie as tie
 
 enum-told : tie.Need-enum-told
@@ -10,14 +10,17 @@ enum-told c = search needs
 enum-told-2 : tie.Need-enum-told-2
 enum-told-2 c = search needs
 
-owed-requires : tie.Need-owed-requires
-owed-requires c κs = search needs
+stopped-requires : tie.Need-stopped-requires
+stopped-requires c κs = search needs
 
-with-tariff-requires : tie.Need-with-tariff-requires
-with-tariff-requires c κs = search needs
+none-requires : tie.Need-none-requires
+none-requires c κs = search needs
 
 with-burst-requires : tie.Need-with-burst-requires
 with-burst-requires c κs = search needs
+
+with-state-requires : tie.Need-with-state-requires
+with-state-requires c κs = search needs
 
 returns : tie.Need-returns
 unfolding hookOf
@@ -25,7 +28,7 @@ returns c = rw (c .enum-told .given .1)
 
 returns-2 : tie.Need-returns-2
 unfolding hookOf
-returns-2 c = rw (c .before .before .before .enum-told2 .given .1, ← c .before .before .owed .ensures, c .with-burst .ensures, c .before .with-tariff .ensures)
+returns-2 c = rw (c .with-state .ensures, c .before .with-burst .ensures, c .before .before .none .ensures, c .before .before .before .stopped .ensures, c .before .before .before .before .before .before .enum-told2 .given .1)
 
 pub hook-spec : {M : Type 1} → statement M
 hook-spec =
@@ -33,8 +36,9 @@ hook-spec =
     (tie.spec
     enum-told
     enum-told-2
-    owed-requires
-    with-tariff-requires
+    stopped-requires
+    none-requires
     with-burst-requires
+    with-state-requires
     returns
     returns-2)

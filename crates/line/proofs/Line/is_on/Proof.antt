@@ -1,7 +1,7 @@
 -- `Line::is_on` meets its contract.
 use Rattle.line.specs.Lines.{onOf}
-use Rattle.line.proofs.Line.is_on.Statement.{statement}
 use borrow.Author.Needs.{needs}
+use Rattle.line.proofs.Line.is_on.Statement.{statement}
 use Rattle.line.proofs.Line.is_on.Tie as tie
 
 returns : tie.Need-returns

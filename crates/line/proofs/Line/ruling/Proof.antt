@@ -13,7 +13,7 @@ ruling-on-requires : tie.Need-ruling-on-requires
 ruling-on-requires c κs = search needs
 
 returns : tie.Need-returns
-returns c = rw (← c .before .before .is-endless .ensures, ← c .before .is-running .ensures, c .ruling-on .ensures)
+returns c = rw (c .ruling-on .ensures, c .before .is-running .ensures, c .before .before .is-endless .ensures)
 
 pub ruling-spec : {M : Type 1} → statement M
 ruling-spec =

@@ -1,5 +1,6 @@
 -- `run` is safe and ends after n ticks.
 use mathlib.Core.Path.{_≡_}
+use mathlib.Core.Logic.{⊎-elim}
 use Prim.Native.Nat.{_≤_, _-_}
 use borrow.Author.Needs.{needs}
 use lib.ListN.{length}
@@ -7,19 +8,22 @@ use Rattle.meter.proofs.gateway.run.Statement.{statement}
 use Rattle.meter.proofs.gateway.run.Tie as tie
 
 abbrev Inv-loop : tie.InvT-loop
-Inv-loop n out₀ held now₀ at₀ i₀ out now at i = (i ≤ n) × (length out ≡ length out₀)
+Inv-loop line n out₀ held pulse spacing state₀ at₀ i₀ out state at i = (i ≤ n) × (length out ≡ length out₀)
 
 abbrev μ-loop : tie.MeasureT-loop
-μ-loop n out₀ held now₀ at₀ i₀ out now at i = n - i
+μ-loop line n out₀ held pulse spacing state₀ at₀ i₀ out state at i = n - i
 
 loop-holds : tie.Need-loop-holds Inv-loop μ-loop
 loop-holds c = search needs
 
-tick-requires : tie.Need-tick-requires Inv-loop μ-loop
-tick-requires c κs = search needs
+quick-requires : tie.Need-quick-requires Inv-loop μ-loop
+quick-requires c κs = search needs
 
-put-tick-requires : tie.Need-put-tick-requires Inv-loop μ-loop
-put-tick-requires c κs = search needs
+moved-requires : tie.Need-moved-requires Inv-loop μ-loop
+moved-requires c κs = search needs
+
+put-moved-requires : tie.Need-put-moved-requires Inv-loop μ-loop
+put-moved-requires c κs = search needs
 
 add-i : tie.Need-add-i Inv-loop μ-loop
 add-i c = search needs
@@ -28,7 +32,7 @@ loop-less : tie.Need-loop-less Inv-loop μ-loop
 loop-less c = search needs
 
 loop-again : tie.Need-loop-again Inv-loop μ-loop
-loop-again c = search needs
+loop-again c = ⊎-elim (λ w. search needs) (λ w. search needs) (c .if1 .came)
 
 same-length : tie.Need-same-length Inv-loop μ-loop
 same-length c = search needs
@@ -43,8 +47,9 @@ run-spec =
     Inv-loop
     μ-loop
     loop-holds
-    tick-requires
-    put-tick-requires
+    quick-requires
+    moved-requires
+    put-moved-requires
     add-i
     loop-less
     loop-again

@@ -11,8 +11,8 @@ add-if1 c = search needs
 add-t14 : tie.Need-add-t14
 add-t14 c = search needs
 
-cast-t15 : tie.Need-cast-t15
-cast-t15 c = search needs
+cast-t16 : tie.Need-cast-t16
+cast-t16 c = search needs
 
 after-interval-requires : tie.Need-after-interval-requires
 after-interval-requires c κs = search needs
@@ -27,4 +27,4 @@ returns-2 c = rw (le-ltb _ _ (c .before .if1 .left), c .after-interval .ensures)
 
 pub after-phased-spec : {M : Type 1} → statement M
 after-phased-spec =
-    tie.close (tie.spec add-if1 add-t14 cast-t15 after-interval-requires returns returns-2)
+    tie.close (tie.spec add-if1 add-t14 cast-t16 after-interval-requires returns returns-2)
