@@ -163,6 +163,10 @@ static void look_ahead(struct line *l)
     l->span = l->quiet = wait < l->burst_wait ? wait : l->burst_wait;
 }
 
+#ifdef STEPPED
+#include "stepped.h"
+#else
+
 /* The quiet ticks are over. */
 static unsigned line_due(struct line *l)
 {
@@ -186,6 +190,8 @@ static void line_tick(struct line *l, struct tick *out)
     l->quiet--;
     out->events = l->quiet == 0 ? line_due(l) : 0;
 }
+
+#endif
 
 struct descriptor {
     enum { TARIFF_NONE, TARIFF_KEEP, TARIFF_RATE, TARIFF_EM, TARIFF_PHASED } tariff;

@@ -1,5 +1,6 @@
 /* A plain C baseline of the program meter.
    Build: gcc -O2 -Wall -Wextra -o plain plain.c
+          with -DSTEPPED, every count is stepped at each tick (stepped.h)
    Use:   plain < script    prints what meter prints
           plain bench       times the tick alone; the cases are at the end */
 
@@ -254,6 +255,9 @@ static struct script read_input(void)
     return (struct script){ s, s + n };
 }
 
+#define PHASED "sig ph 3 none\n1000 3 37 2 63 5 2400\n500 5 3 4 7 5 2400\n250 3 2 2 5 1 0\n"
+#define BURST "sig em 0 1000 burst 65535 1\n"
+
 /* Timing. Each case is 20 rounds. A round makes its lines afresh, each by
    "cfg 50 50 0" and its sig, and then ticks them: every line one tick in order
    of place, then every line the next tick.
@@ -265,6 +269,8 @@ static struct script read_input(void)
            (the burst runs to the end of the round)
    lines   64 lines, 112,500 ticks a round: sig em 0 P none, with P = 400 + 10 i
            for place i, 0 to 63
+   row-em, row-phased, row-burst
+           64 lines, 112,500 ticks a round: each with the sig of em, phased or burst
 
    A case prints its name, the ticks of all lines and rounds, the fronts, the
    nanoseconds of processor time a tick and a checksum. The checksum starts at 0
@@ -277,10 +283,12 @@ static const struct bench_case {
     const char *sig;              /* NULL for em 0 (400 + 10 * place) */
 } cases[] = {
     { "em", 1, 7200000, NULL },
-    { "phased", 1, 7200000, "sig ph 3 none\n1000 3 37 2 63 5 2400\n"
-                            "500 5 3 4 7 5 2400\n250 3 2 2 5 1 0\n" },
-    { "burst", 1, 7200000, "sig em 0 1000 burst 65535 1\n" },
+    { "phased", 1, 7200000, PHASED },
+    { "burst", 1, 7200000, BURST },
     { "lines", 64, 112500, NULL },
+    { "row-em", 64, 112500, "sig em 0 400 none\n" },
+    { "row-phased", 64, 112500, PHASED },
+    { "row-burst", 64, 112500, BURST },
 };
 
 static void make_line(const struct bench_case *c, uint32_t place, struct line *l)
