@@ -40,8 +40,8 @@ isDue b = ltb 0 (b .owed) && leb (b .distance) (b .since)
 
 -- one tick on nothing of it happens, where passed says whether S ticks will have passed since the last front: no burst
 -- runs, or it is not complete and its next pulse may not start
-unfoldable pub quietOf : ℕ → Bool → Burst → Bool
-quietOf D passed b =
+unfoldable pub burstQuiet : ℕ → Bool → Burst → Bool
+burstQuiet D passed b =
     cond (isRunning b) (not (completesOf D b) && not (isDue (olderOf b) && passed)) (eqb (b .owed) 0)
 
 abbrev pub begunOf : Burst → Burst

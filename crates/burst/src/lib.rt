@@ -1,7 +1,7 @@
 // A burst: what is owed, one tick on, whether its next pulse may start, and after that pulse's front.
 ghost use mathlib.Core.Path.{_≡_};
 ghost use Prim.Native.Nat.{_-_};
-ghost use Rattle.burst.specs.Bursts.{noBurst, startOf, isRunning, heldMore, olderOf, completesOf, agedOf, isDue, quietOf, begunOf};
+ghost use Rattle.burst.specs.Bursts.{noBurst, startOf, isRunning, heldMore, olderOf, completesOf, agedOf, isDue, burstQuiet, begunOf};
 
 // The pulses owed, the least distance of its fronts, and the ticks since its last front, held at that distance. Where the
 // distance is 0 none runs.
@@ -104,7 +104,7 @@ impl Burst {
 
     // Whether nothing of it happens one tick on, where `passed` says whether S ticks will have passed since the last front.
     pub fn is_quiet(self, pulse: u32, passed: bool) -> bool
-        ensures { λ r. ⌜ r ≡ quietOf pulse passed self ⌝ }
+        ensures { λ r. ⌜ r ≡ burstQuiet pulse passed self ⌝ }
     {
         if self.is_running() {
             let older = self.older();

@@ -18,7 +18,7 @@ use Rattle.phase_lists.specs.Tables.{tableWith}
 use Rattle.descriptor.specs.Refusals.{ruling, soundConfiguration, tariffCauses, burstCauses}
 use Rattle.burst.specs.Bursts.{isRunning, heldMore, agedOf, isDue}
 use Rattle.line.specs.Rules.{cancelledBy, frontAt}
-use Rattle.line.specs.Lines.{blankLine, makeOf, describeOf, hookOf, periodOf, noPeriodOf, auditOf, answeredBy, tariffChanged, burstChanged, withPeriod, sinceAfter, moveOf, tickOf}
+use Rattle.line.specs.Lines.{blankLine, makeOf, describeOf, hookOf, periodOf, noPeriodOf, auditOf, answeredBy, tariffChanged, burstChanged, withPeriod, sinceFront, moveOf, tickOf}
 use Rattle.line.specs.declared.Line.{Line}
 use Rattle.demand.specs.Names.{Front, NoFront, TariffFront, BurstFront, Phase, TariffPart, NoTariff, KeepTariff, Rate, Em, Phased, BurstPart, NoBurst, KeepBurst, Start, KeepHook, Stop, Ruling, Allowed, TurnedDown}
 use Rattle.demand.specs.Calls.{Call, describe, hook, period, noPeriod, audit, tick, Answer, ticked, Entry, asks}

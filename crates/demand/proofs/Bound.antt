@@ -16,7 +16,7 @@ use Rattle.burst.specs.Bursts.{burstWith}
 use Rattle.line.specs.declared.Line.{Line}
 use Rattle.demand.specs.Calls.{Call, Answer, Entry}
 use Rattle.demand.specs.History.{granted, frontOf, sum, ticks, begun, burstIn, Started, started, never}
-use Rattle.demand.specs.Machine.{entryOf, outcome, step}
+use Rattle.demand.specs.Machine.{entryFor, outcome, step}
 use Rattle.demand.specs.Demand.{isFresh, beforeLast, freshBefore, cancelsBefore, deadline, LastBegins}
 use Rattle.slots.proofs.Ahead.{nextOf}
 use Rattle.demand.proofs.Counts.{ticks-most}
@@ -143,11 +143,11 @@ module _ (D S clock : ℕ) (cfg : Config D S) (small : clock < 2 ^ 32) where
   some = omega arith
 
   -- one call
-  keeps : (h : List Entry) {l : Line} → Coupled D S clock h l → (n K j r done : ℕ) (c : Call) (a : Answer) (l′ : Line) → step l c ≡ outcome a l′ → isNone (granted (entryOf c a l′) .burst) ≡ 0 →
-      isBurstFront (frontOf (entryOf c a l′)) + done < n → Left S l n K j r done →
-      Left S l′ n K (cond (granted (entryOf c a l′) .tick) (j + 1) j) (isFresh (granted (entryOf c a l′) .tariff) + r) (isBurstFront (frontOf (entryOf c a l′)) + done)
+  keeps : (h : List Entry) {l : Line} → Coupled D S clock h l → (n K j r done : ℕ) (c : Call) (a : Answer) (l′ : Line) → step l c ≡ outcome a l′ → isNone (granted (entryFor c a l′) .burst) ≡ 0 →
+      isBurstFront (frontOf (entryFor c a l′)) + done < n → Left S l n K j r done →
+      Left S l′ n K (cond (granted (entryFor c a l′) .tick) (j + 1) j) (isFresh (granted (entryFor c a l′) .tariff) + r) (isBurstFront (frontOf (entryFor c a l′)) + done)
   keeps h {l} (line-at e before ag g x y) n K j r done c a l′ q kept-on few left =
-      kept S some n K j r done l l′ (entryOf c a l′) left (rw q at (effect l cfg g (left .others) (left .distance) (left .own) (left .owing) (left .wide) c)) kept-on few
+      kept S some n K j r done l l′ (entryFor c a l′) left (rw q at (effect l cfg g (left .others) (left .distance) (left .own) (left .owing) (left .wide) c)) kept-on few
 
   -- the start itself
   begun-line : {l : Line} (n P : ℕ) (before : List Entry) (e : Entry) → Coupled D S clock (e ∷ before) l → granted e .burst ≡ Start (suc n) P → Left S l (suc n) (3 * S + n * (max P S + 2 * S)) 0 0 0

@@ -28,7 +28,7 @@ use Rattle.burst.specs.Bursts.{noBurst, isRunning, heldMore, olderOf, completes
 use Rattle.burst.specs.declared.Burst.{Burst}
 use Rattle.burst.specs.declared.Aged.{Aged}
 use Rattle.line.specs.Rules.{oneMore, reportDue, cancelledBy, frontAt}
-use Rattle.line.specs.Lines.{freshLine, describeOf, hookOf, periodOf, noPeriodOf, auditOf, answeredBy, tariffChanged, burstChanged, withPeriod, countOf, countBy, sinceAfter, burstAfter, moveOf, tickOf}
+use Rattle.line.specs.Lines.{freshLine, describeOf, hookOf, periodOf, noPeriodOf, auditOf, answeredBy, tariffChanged, burstChanged, withPeriod, countOf, countBy, sinceFront, burstAfter, moveOf, tickOf}
 use Rattle.line.specs.declared.Counters.{Counters}
 use Rattle.line.specs.declared.State.{State}
 use Rattle.line.specs.declared.Line.{Line}
@@ -137,8 +137,8 @@ after-bounded None b x = x
 after-bounded TariffFront b x = x
 after-bounded BurstFront b x = record { owed = omega (arith, x .owed); distance = x .distance; since = omega arith }
 
-pub since-bounded : (S since : ℕ) (f : Front) → since ≤ S → sinceAfter f since ≤ S
-unfolding sinceAfter
+pub since-bounded : (S since : ℕ) (f : Front) → since ≤ S → sinceFront f since ≤ S
+unfolding sinceFront
 since-bounded S since None l = l
 since-bounded S since TariffFront l = omega arith
 since-bounded S since BurstFront l = omega arith

@@ -13,10 +13,10 @@ abbrev pub total : List Entry → ℕ
 total h = min 4294967295 (frontsSinceEm h)
 
 -- a counter after a tick with this front or none
-abbrev pub countBy : Front → ℕ → ℕ
-countBy f n = ifFront f (oneMore n) n
+abbrev pub counterAfter : Front → ℕ → ℕ
+counterAfter f n = ifFront f (oneMore n) n
 
-pub counted-held : (f : Front) (n : ℕ) → countBy f (min 4294967295 n) ≡ min 4294967295 (ifFront f (n + 1) n)
+pub counted-held : (f : Front) (n : ℕ) → counterAfter f (min 4294967295 n) ≡ min 4294967295 (ifFront f (n + 1) n)
 counted-held NoFront n = refl
 counted-held TariffFront n = omega arith
 counted-held BurstFront n = omega arith

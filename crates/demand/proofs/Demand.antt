@@ -26,7 +26,7 @@ use Rattle.line.specs.declared.Line.{Line}
 use Rattle.demand.specs.Calls.{Call, hook, audit, Answer, accepted, counters, ticked, Entry, asks}
 use Rattle.demand.specs.History.{unlessRefused, granted, told, frontOf, ticks, running, owed, frontsSinceEm, sinceReport}
 use Rattle.demand.specs.Answers.{answerAfter}
-use Rattle.demand.specs.Machine.{entryOf, Outcome, outcome, step, Past, past, noted, afterCall, afterCalls, entries, lineAfter, history}
+use Rattle.demand.specs.Machine.{entryFor, Outcome, outcome, step, Past, past, noted, afterCall, afterCalls, entries, lineAfter, history}
 use Rattle.demand.specs.Demand.{EndAnswers, Follows, Demand3}
 use Rattle.demand.proofs.Coupled.{Config}
 use Rattle.demand.proofs.AnswerKinds.{Kind, to-command, to-audit, to-tick, kind}
@@ -71,7 +71,7 @@ module _ (D S clock : ℕ) (cfg : Config D S) (small : clock < 2 ^ 32) where
   Ends h c p = (e : Entry) × (entries p ≡ e ∷ h) × (e .answer ≡ answerAfter D S h c)
 
   noted-end : (h : List Entry) (c : Call) (o : Outcome) → Right D S clock cfg h c o → Ends h c (noted h c o)
-  noted-end h c (outcome a l) r = (entryOf c a l, refl, r .0)
+  noted-end h c (outcome a l) r = (entryFor c a l, refl, r .0)
 
   call-end : (p : Past) (c : Call) → Run D S clock cfg (entries p) (lineAfter p) → Ends (entries p) c (afterCall p c)
   call-end (past h l) c r = noted-end h c (step l c) (step-right D S clock cfg h (coupled D S clock cfg small r) c)

@@ -23,12 +23,12 @@ use Rattle.descriptor.specs.declared.Hook.the-variants.{Keep, Stop}
 use Rattle.burst.specs.Bursts.{burstWith, isRunning, heldMore, completesOf, agedOf, isDue}
 use Rattle.burst.specs.declared.Aged.{Aged}
 use Rattle.line.specs.Rules.{cancelledBy, frontAt}
-use Rattle.line.specs.Lines.{describeOf, hookOf, periodOf, noPeriodOf, auditOf, moveOf, tickOf, onOf, answeredBy, tariffChanged, burstChanged, withState, withPeriod, countBy, sinceAfter, burstAfter}
+use Rattle.line.specs.Lines.{describeOf, hookOf, periodOf, noPeriodOf, auditOf, moveOf, tickOf, onOf, answeredBy, tariffChanged, burstChanged, withState, withPeriod, countBy, sinceFront, burstAfter}
 use Rattle.line.specs.declared.Line.{Line}
 use Rattle.line.specs.declared.Ticked.{Ticked}
 use Rattle.demand.specs.Calls.{Call, describe, hook, period, noPeriod, audit, tick, ticked, Entry, asks}
 use Rattle.demand.specs.History.{granted, frontOf}
-use Rattle.demand.specs.Machine.{rulingOf, entryOf, Outcome, outcome, answered, step}
+use Rattle.demand.specs.Machine.{rulingOf, entryFor, Outcome, outcome, answered, step}
 use Rattle.demand.specs.Demand.{isFresh}
 use Rattle.slots.proofs.Ahead.{nextOf, Waits, Good}
 use Rattle.slots.proofs.Agree.{Next, waits, empty, pulse}
@@ -111,7 +111,7 @@ module _ (l : Line) (cfg : Config (l .pulse) (l .spacing)) (good : Good (l .spac
               (record {
                 wait = t′ .wait;
                 clock = (l .state .clock + 1) % 2 ^ 32;
-                since = sinceAfter f (heldMore S (l .state .since));
+                since = sinceFront f (heldMore S (l .state .since));
                 tariff = t′ .tariff;
                 burst = burstAfter f (x .burst);
                 counters = n .counters;
@@ -123,7 +123,7 @@ module _ (l : Line) (cfg : Config (l .pulse) (l .spacing)) (good : Good (l .spac
     frontWith x = frontAt (t′ .slot) (isDue (x .burst) && (leb S (heldMore S (l .state .since)) && roomOf S (t′ .tariff) (t′ .wait)))
 
     abbrev TickEffect : Ticked → Type 0
-    TickEffect x = Effect S (l .state .since) (nextOf (l .state .tariff) (l .state .wait)) m g k (entryOf c (ticked (x .tick)) (x .line)) (x .line)
+    TickEffect x = Effect S (l .state .since) (nextOf (l .state .tariff) (l .state .wait)) m g k (entryFor c (ticked (x .tick)) (x .line)) (x .line)
 
     blocked : may-start ≡ false → nextOf (t′ .tariff) (t′ .wait) ≡ nextOf (l .state .tariff) (l .state .wait) - 1 → Blocked S (l .state .since) g k (nextOf (l .state .tariff) (l .state .wait))
     blocked h e =
@@ -131,7 +131,7 @@ module _ (l : Line) (cfg : Config (l .pulse) (l .spacing)) (good : Good (l .spac
         (sym (room-next S (l .phases) (l .count) (t′ .tariff) (t′ .wait) (good-step S (l .pulse) (l .phases) (l .count) some fits (l .state .tariff) (l .state .wait) good))) (rw (lt-ltb 0 (suc m) (omega arith)) at h)
 
     by : (s : Slot) (may : Bool) → may-start ≡ may → Next S (nextOf (l .state .tariff) (l .state .wait)) (nextOf (t′ .tariff) (t′ .wait)) s → TickEffect (tickWith u′ (frontAt s may))
-    unfolding sinceAfter burstAfter
+    unfolding sinceFront burstAfter
     by NoSlot false h (waits p q) = waiting ticking refl p (blocked h q) refl q refl
     by NoSlot true h (waits p q) = burst-due ticking refl refl (ap (λ (x : ℕ). burstWith x g 0) (omega arith))
     by Empty may h (empty p q) = empty-due ticking refl p q refl refl
@@ -146,7 +146,7 @@ module _ (l : Line) (cfg : Config (l .pulse) (l .spacing)) (good : Good (l .spac
 
   -- ---- the other calls
   abbrev pub EffectOf : Call → Outcome → Type 0
-  EffectOf c (outcome a l′) = Effect S (l .state .since) (nextOf (l .state .tariff) (l .state .wait)) m g k (entryOf c a l′) l′
+  EffectOf c (outcome a l′) = Effect S (l .state .since) (nextOf (l .state .tariff) (l .state .wait)) m g k (entryFor c a l′) l′
 
   changed : (t : TariffPart) (ls : Lists) (b : BurstPart) (u : Ruling) → rulingOf l (describe t ls b) ≡ u →
       EffectOf (describe t ls b) (answered (answeredBy u l (burstChanged b (tariffChanged t (tableWith (phasesOf ls)) l)) (cancelledBy b (l .state .burst .owed))))

@@ -23,7 +23,7 @@ use Rattle.line.specs.declared.Line.{Line}
 use Rattle.demand.specs.Calls.{Call, describe, hook, period, noPeriod, audit, tick, Answer, accepted, counters, ticked, Entry}
 use Rattle.demand.specs.History.{ticks, lastFront, burstIn, owed, burstRuns, running, frontsSinceEm, sinceReport, periodIn, pulseOn, never, idle}
 use Rattle.demand.specs.Answers.{rulingAfter, answerAfter}
-use Rattle.demand.specs.Machine.{rulingOf, entryOf, Outcome, outcome, answered, step, Past, past, noted, afterCalls, entries, lineAfter}
+use Rattle.demand.specs.Machine.{rulingOf, entryFor, Outcome, outcome, answered, step, Past, past, noted, afterCalls, entries, lineAfter}
 use Rattle.slots.proofs.Fresh.{agree-idle}
 use Rattle.slots.proofs.Rate.{rate-runs}
 use Rattle.demand.proofs.Held.{held-on}
@@ -57,7 +57,7 @@ module _ (D S clock : ℕ) (cfg : Config D S) where
 
   -- a call's answer is the paper's, and the line after it is coupled
   abbrev pub Right : List Entry → Call → Outcome → Type 0
-  Right h c (outcome a l) = (a ≡ answerAfter D S h c) × Coupled D S clock (entryOf c a l ∷ h) l
+  Right h c (outcome a l) = (a ≡ answerAfter D S h c) × Coupled D S clock (entryFor c a l ∷ h) l
 
   module _ (h : List Entry) {l : Line} (x : Coupled D S clock h l) where
     describe-right : (t : TariffPart) (ls : Lists) (b : BurstPart) (u : Ruling) → rulingAfter D S h (describe t ls b) ≡ u →
@@ -86,7 +86,7 @@ module _ (D S clock : ℕ) (cfg : Config D S) where
   -- ---- histories
   pub data Run : List Entry → Line → Type 0 where
     begin : Run [] (freshLine D S clock)
-    more : {h : List Entry} {l l′ : Line} {c : Call} {a : Answer} → Run h l → step l c ≡ outcome a l′ → Run (entryOf c a l′ ∷ h) l′
+    more : {h : List Entry} {l l′ : Line} {c : Call} {a : Answer} → Run h l → step l c ≡ outcome a l′ → Run (entryFor c a l′ ∷ h) l′
 
   -- a fresh line, whose clock fits 32 bits
   fresh-at : (k : ℕ) → k ≡ (clock + 0) % 2 ^ 32 →

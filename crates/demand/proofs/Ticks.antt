@@ -20,7 +20,7 @@ use Rattle.burst.specs.Bursts.{heldMore, agedOf, isDue, begunOf}
 use Rattle.burst.specs.declared.Burst.{Burst}
 use Rattle.burst.specs.declared.Aged.{Aged}
 use Rattle.line.specs.Rules.{oneMore, reportDue, frontAt}
-use Rattle.line.specs.Lines.{countOf, countBy as countedBy, sinceAfter, burstAfter, moveOf, tickOf}
+use Rattle.line.specs.Lines.{countOf, countBy, sinceFront, burstAfter, moveOf, tickOf}
 use Rattle.line.specs.declared.Count.{Count}
 use Rattle.line.specs.declared.Line.{Line}
 use Rattle.demand.specs.History.{Last, at, passed, Started, oneBegun, burstCompletes, burstReady}
@@ -30,7 +30,7 @@ use Rattle.slots.proofs.Tick.{good-step, next-step}
 use Rattle.slots.proofs.Coupling.{agree-now, agree-complete, agree-tick, runs-on}
 use Rattle.slots.proofs.Room.{room-next, agree-room}
 use Rattle.demand.proofs.Held.{heldSince, Before, before-more, held-more}
-use Rattle.demand.proofs.Counters.{countBy}
+use Rattle.demand.proofs.Counters.{counterAfter}
 use Rattle.demand.proofs.Coupled.{Config, Apart, BurstAt, At, line-at}
 use Rattle.demand.proofs.Bursts.{burst-aged, burst-ready, burst-begun}
 
@@ -66,7 +66,7 @@ module _ (D S clock : ℕ) (cfg : Config D S) where
 
   abbrev pub After : ℕ → Last → Started → Running → ℕ → ℕ → ℕ → Tick → Line → Type 0
   After i last b r cpc pcslr rp k l =
-      At D S clock (i + 1) (ifFront (k .front) (at (i + 1)) last) (ifBurst (k .front) (oneBegun (i + 1) b) b) (cond (completesAt D r (i + 1)) nothing r) (countBy (k .front) cpc) (cond (k .report) 0 (countBy (k .front) pcslr)) rp l
+      At D S clock (i + 1) (ifFront (k .front) (at (i + 1)) last) (ifBurst (k .front) (oneBegun (i + 1) b) b) (cond (completesAt D r (i + 1)) nothing r) (counterAfter (k .front) cpc) (cond (k .report) 0 (counterAfter (k .front) pcslr)) rp l
 
   module _ (i : ℕ) (last : Last) (b : Started) (r : Running) (cpc pcslr rp : ℕ) (t : Tariff) (w : ℕ) (ps : List Phase) (n : ℕ) (u : Burst)
       (v : ℕ) (held : v ≡ heldSince S last i) (before : Before last i) (a : Agree D ps n r t w i) (g : Good S ps n t w) (x : BurstAt D S i b u) (y : Apart S v (nextOf t w)) where
@@ -105,7 +105,7 @@ module _ (D S clock : ℕ) (cfg : Config D S) where
 
     -- the tick and the state after it, with this front or none
     abbrev told : Front → Tick
-    told f = record { tariff = t′ .complete; burst = u′ .complete; front = f; report = countedBy f (record { cpc = cpc; pcslr = pcslr; rp = rp }) .report }
+    told f = record { tariff = t′ .complete; burst = u′ .complete; front = f; report = countBy f (record { cpc = cpc; pcslr = pcslr; rp = rp }) .report }
 
     abbrev lineAfter : Front → Line
     lineAfter f =
@@ -117,10 +117,10 @@ module _ (D S clock : ℕ) (cfg : Config D S) where
               record {
                 wait = t′ .wait;
                 clock = ((clock + i) % 2 ^ 32 + 1) % 2 ^ 32;
-                since = sinceAfter f now;
+                since = sinceFront f now;
                 tariff = t′ .tariff;
                 burst = burstAfter f (u′ .burst);
-                counters = countedBy f (record { cpc = cpc; pcslr = pcslr; rp = rp }) .counters;
+                counters = countBy f (record { cpc = cpc; pcslr = pcslr; rp = rp }) .counters;
               };
           phases = ps;
         }
@@ -129,7 +129,7 @@ module _ (D S clock : ℕ) (cfg : Config D S) where
     by : (s : Slot) (may : Bool) → Next S (nextOf t w) (nextOf (t′ .tariff) (t′ .wait)) s → (may ≡ true → burstReady S b (i + 1) ≡ true) →
         (may ≡ true → (nextOf (t′ .tariff) (t′ .wait) ≡ 0 → ⊥) → S ≤ nextOf (t′ .tariff) (t′ .wait)) →
         (told (frontAt s may) ≡ tickTold i last b r pcslr rp (frontAt s may)) × After i last b r cpc pcslr rp (told (frontAt s may)) (lineAfter (frontAt s may))
-    unfolding countedBy sinceAfter burstAfter
+    unfolding countBy sinceFront burstAfter
     by NoSlot false (waits p q) h z =
         rw (← agree-complete S D ps n some fits r t w i g a, ← burst-aged D S cfg i b u x .0, clock-more) (
           refl,

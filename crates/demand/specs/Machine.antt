@@ -46,15 +46,15 @@ abbrev pub rulingOf : Line → Call → Ruling
 rulingOf l c = ruling (causes (l .spacing) (isEndless (l .state .tariff)) (isRunning (l .state .burst)) c)
 
 -- the entry of a call that was answered a and left the line l
-abbrev pub entryOf : Call → Answer → Line → Entry
-entryOf c a l = record { call = c; answer = a; clock = l .state .clock; on = onOf l }
+abbrev pub entryFor : Call → Answer → Line → Entry
+entryFor c a l = record { call = c; answer = a; clock = l .state .clock; on = onOf l }
 
 -- a history, newest first, and the line after it
 pub data Past : Type 0 where
   past : (h : List Entry) (l : Line) → Past
 
 abbrev pub noted : List Entry → Call → Outcome → Past
-noted h c (outcome a l) = past (entryOf c a l ∷ h) l
+noted h c (outcome a l) = past (entryFor c a l ∷ h) l
 
 abbrev pub afterCall : Past → Call → Past
 afterCall (past h l) c = noted h c (step l c)

@@ -12,9 +12,9 @@ use Rattle.tariff.specs.declared.Phase.{Phase}
 use Rattle.tariff.specs.declared.Slot.the-variants.{None as NoSlot}
 use Rattle.tariff.specs.declared.Tariff.{Tariff}
 use Rattle.tariff.specs.declared.Tariff.the-variants.{Idle, Endless, Counted, Phased, Ending}
-use Rattle.burst.specs.Bursts.{isRunning, heldMore, olderOf, completesOf, agedOf, isDue, quietOf as burstQuiet}
+use Rattle.burst.specs.Bursts.{isRunning, heldMore, olderOf, completesOf, agedOf, isDue, burstQuiet}
 use Rattle.burst.specs.declared.Burst.{Burst}
-use Rattle.line.specs.Lines.{isOn, countBy, sinceAfter, burstAfter, happens, moveOf, quietOf, waitedOf, quickOf}
+use Rattle.line.specs.Lines.{isOn, countBy, sinceFront, burstAfter, happens, moveOf, quietOf, waitedOf, quickOf}
 use Rattle.line.specs.declared.Line.{Line}
 use Rattle.line.specs.declared.State.{State}
 
@@ -68,7 +68,7 @@ no-more true false c h = refl
 no-more false b c h = refl
 
 pub quiet-moves : (l : Line) → quietOf (l .pulse) (l .spacing) (l .state) ≡ true → moveOf l ≡ quickOf (l .pulse) (l .spacing) (l .state) .moved
-unfolding moveOf quickOf waitedOf countBy sinceAfter burstAfter happens
+unfolding moveOf quickOf waitedOf countBy sinceFront burstAfter happens
 quiet-moves l h =
     let s : State = l .state in
     let q : Quiet (l .pulse) (l .spacing) s = quiet-parts (l .pulse) (l .spacing) s h in

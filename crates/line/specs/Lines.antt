@@ -24,8 +24,7 @@ use Rattle.descriptor.specs.declared.BurstPart.the-variants.{None as NoBurst, K
 use Rattle.descriptor.specs.declared.Refusal.the-variants.{Configuration}
 use Rattle.descriptor.specs.declared.Hook.{Hook}
 use Rattle.descriptor.specs.declared.Hook.the-variants.{Keep, Stop}
-use Rattle.burst.specs.Bursts.{noBurst, startOf, isRunning, heldMore, olderOf, agedOf, isDue, begunOf}
-use Rattle.burst.specs.Bursts.{quietOf as burstQuiet}
+use Rattle.burst.specs.Bursts.{noBurst, startOf, isRunning, heldMore, olderOf, agedOf, isDue, begunOf, burstQuiet}
 use Rattle.burst.specs.declared.Burst.{Burst}
 use Rattle.line.specs.Rules.{oneMore, reportDue, cancelledBy, frontAt}
 use Rattle.line.specs.declared.Counters.{Counters}
@@ -97,8 +96,8 @@ abbrev pub stopped : State → State
 stopped s = withTariff s 0 Idle (s .counters)
 
 -- a rate: the next slot stays
-abbrev pub rated : State → ℕ → State
-rated s P = withTariff s (s .wait) (rateOf P (s .tariff)) (s .counters)
+abbrev pub withRate : State → ℕ → State
+withRate s P = withTariff s (s .wait) (rateOf P (s .tariff)) (s .counters)
 
 -- a fresh em zeroes the counters
 abbrev pub withEm : Line → ℕ → ℕ → Line
@@ -118,7 +117,7 @@ withTable l t =
 unfoldable pub tariffChanged : TariffPart → PhaseTable → Line → Line
 tariffChanged NoTariff t l = withState l (stopped (l .state))
 tariffChanged KeepTariff t l = l
-tariffChanged (Rate P) t l = withState l (rated (l .state) P)
+tariffChanged (Rate P) t l = withState l (withRate (l .state) P)
 tariffChanged (Em C P) t l = withEm l C P
 tariffChanged Phased t l = withTable l t
 
@@ -181,8 +180,8 @@ countOf n =
 unfoldable pub countBy : Front → Counters → Count
 countBy f n = ifFront f (countOf n) (record { counters = n; report = false })
 
-unfoldable pub sinceAfter : Front → ℕ → ℕ
-sinceAfter f since = ifFront f 0 since
+unfoldable pub sinceFront : Front → ℕ → ℕ
+sinceFront f since = ifFront f 0 since
 
 unfoldable pub burstAfter : Front → Burst → Burst
 burstAfter f b = ifBurst f (begunOf b) b
@@ -210,7 +209,7 @@ moveOf l =
           record {
             wait = t .wait;
             clock = (s .clock + 1) % 2 ^ 32;
-            since = sinceAfter f since;
+            since = sinceFront f since;
             tariff = t .tariff;
             burst = burstAfter f (b .burst);
             counters = n .counters;

@@ -1,6 +1,6 @@
 // The state with another tariff, another burst or other counters.
 ghost use mathlib.Core.Path.{_≡_};
-ghost use Rattle.line.specs.Lines.{withTariff, withBurst, withState, stopped, rated};
+ghost use Rattle.line.specs.Lines.{withTariff, withBurst, withState, stopped, withRate};
 use super::Counters;
 use super::Line;
 use super::State;
@@ -35,7 +35,7 @@ impl State {
 
     // A rate: the next slot stays.
     pub(crate) fn rated(self, interval: u32) -> State
-        ensures { λ r. ⌜ r ≡ rated self interval ⌝ }
+        ensures { λ r. ⌜ r ≡ withRate self interval ⌝ }
     {
         let old = self.tariff;
         self.with_tariff(self.wait, old.rate(interval), self.counters)

@@ -2,7 +2,7 @@
 ghost use mathlib.Core.Path.{_≡_};
 ghost use mathlib.Core.Bool.{not, _&&_};
 ghost use Rattle.line.specs.Rules.{frontAt};
-ghost use Rattle.line.specs.Lines.{isOn, sinceAfter, burstAfter, happens, moveOf, tickOf, onOf};
+ghost use Rattle.line.specs.Lines.{isOn, sinceFront, burstAfter, happens, moveOf, tickOf, onOf};
 use super::Line;
 use super::Moved;
 use super::State;
@@ -25,7 +25,7 @@ fn front_at(slot: Slot, burst: bool) -> Front
 
 // The ticks since the last front, which may be at this tick.
 fn since_front(front: Front, since: u32) -> u32
-    ensures { λ r. ⌜ r ≡ sinceAfter front since ⌝ }
+    ensures { λ r. ⌜ r ≡ sinceFront front since ⌝ }
 {
     match front {
         Front::None => since,

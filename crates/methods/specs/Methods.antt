@@ -20,7 +20,7 @@ use Rattle.lent.proofs.tick_in_place as lent
 use Rattle.descriptor.specs.Refusals.{soundConfiguration}
 use Rattle.demand.specs.Calls.{Call, describe, hook, period, noPeriod, audit, tick}
 use Rattle.demand.specs.Calls.{Answer, accepted, refused, ticked}
-use Rattle.demand.specs.Machine.{verdictTold, outcome, answered, audited, moved, step, entryOf}
+use Rattle.demand.specs.Machine.{verdictTold, outcome, answered, audited, moved, step, entryFor}
 use Rattle.demand.specs.Machine.{past, afterCalls, entries, history}
 
 -- of the values passed to a call, its result, and the values passed as they are after it
@@ -61,4 +61,5 @@ module _ {M : Type 1} (𝓤 : URA M) (H : Heap 𝓤) (𝓜 : Model 𝓤 H) (𝓖
     pub lent : Does lent.ended lent.Symbol.routine
         (λ _ (l, _) r (l′, _). step (now l) tick ≡ outcome (ticked r) (now l′))
     -- whether a pulse is on, in the entry of a call that leaves this line
-    pub on : Does L.is_on.ended L.is_on.Symbol.routine (λ _ (l, _) r _. (c : Call) (a : Answer) → entryOf c a l .on ≡ r)
+    pub on : Does L.is_on.ended L.is_on.Symbol.routine
+        (λ _ (l, _) r _. (c : Call) (a : Answer) → entryFor c a l .on ≡ r)

@@ -1,5 +1,5 @@
 -- `ticking::since_front` meets its contract.
-use Rattle.line.specs.Lines.{sinceAfter}
+use Rattle.line.specs.Lines.{sinceFront}
 use borrow.Author.Needs.{needs}
 use Rattle.line.proofs.ticking.since_front.Statement.{statement}
 use Rattle.line.proofs.ticking.since_front.Tie as tie
@@ -14,15 +14,15 @@ enum-told-3 : tie.Need-enum-told-3
 enum-told-3 c = search needs
 
 returns : tie.Need-returns
-unfolding sinceAfter
+unfolding sinceFront
 returns c = rw (c .enum-told .given .1)
 
 returns-2 : tie.Need-returns-2
-unfolding sinceAfter
+unfolding sinceFront
 returns-2 c = rw (c .enum-told2 .given .1)
 
 returns-3 : tie.Need-returns-3
-unfolding sinceAfter
+unfolding sinceFront
 returns-3 c = rw (c .enum-told3 .given .1)
 
 pub since-front-spec : {M : Type 1} → statement M
