@@ -27,10 +27,12 @@ use Rattle.descriptor.specs.declared.Hook.the-variants.{Keep, Stop}
 use Rattle.burst.specs.Bursts.{noBurst, isRunning, heldMore, olderOf, completesOf, agedOf, isDue, begunOf}
 use Rattle.burst.specs.declared.Burst.{Burst}
 use Rattle.burst.specs.declared.Aged.{Aged}
-use Rattle.line.specs.Rules.{oneMore, reportDue, cancelledBy, frontAt}
-use Rattle.line.specs.Lines.{freshLine, describeOf, hookOf, periodOf, noPeriodOf, auditOf, answeredBy, tariffChanged, burstChanged, withPeriod, countOf, countBy, sinceFront, burstAfter, moveOf, tickOf}
-use Rattle.line.specs.declared.Counters.{Counters}
-use Rattle.line.specs.declared.State.{State}
+use Rattle.state.specs.Rules.{oneMore, reportDue}
+use Rattle.state.specs.States.{countOf, countBy}
+use Rattle.state.specs.declared.Counters.{Counters}
+use Rattle.state.specs.declared.State.{State}
+use Rattle.line.specs.Rules.{cancelledBy, frontAt}
+use Rattle.line.specs.Lines.{freshLine, describeOf, hookOf, periodOf, noPeriodOf, auditOf, answeredBy, tariffChanged, burstChanged, withPeriod, sinceFront, burstAfter, moveOf, tickOf}
 use Rattle.line.specs.declared.Line.{Line}
 use Rattle.demand.specs.Calls.{Call, describe, hook, period, noPeriod, audit, tick, Entry}
 use Rattle.demand.specs.Machine.{rulingOf, Outcome, outcome, answered, step}

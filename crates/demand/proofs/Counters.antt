@@ -4,7 +4,7 @@ use mathlib.Core.List.{List}
 use Prim.Native.Nat.{ℕ, _+_, min}
 use native.Mathlib.Omega.{arith}
 use Rattle.answers.specs.Fronts.{ifFront}
-use Rattle.line.specs.Rules.{oneMore}
+use Rattle.state.specs.Rules.{oneMore}
 use Rattle.demand.specs.Names.{Front, NoFront, TariffFront, BurstFront, TariffPart, NoTariff, KeepTariff, Rate, Em, Phased}
 use Rattle.demand.specs.Calls.{Entry}
 use Rattle.demand.specs.History.{zeroedBy, frontsSinceEm}

@@ -22,8 +22,9 @@ use Rattle.descriptor.specs.declared.BurstPart.the-variants.{None as NoBurst, K
 use Rattle.descriptor.specs.declared.Hook.the-variants.{Keep, Stop}
 use Rattle.burst.specs.Bursts.{burstWith, isRunning, heldMore, completesOf, agedOf, isDue}
 use Rattle.burst.specs.declared.Aged.{Aged}
+use Rattle.state.specs.States.{countBy}
 use Rattle.line.specs.Rules.{cancelledBy, frontAt}
-use Rattle.line.specs.Lines.{describeOf, hookOf, periodOf, noPeriodOf, auditOf, moveOf, tickOf, onOf, answeredBy, tariffChanged, burstChanged, withState, withPeriod, countBy, sinceFront, burstAfter}
+use Rattle.line.specs.Lines.{describeOf, hookOf, periodOf, noPeriodOf, auditOf, moveOf, tickOf, onOf, answeredBy, tariffChanged, burstChanged, withState, withPeriod, sinceFront, burstAfter}
 use Rattle.line.specs.declared.Line.{Line}
 use Rattle.line.specs.declared.Ticked.{Ticked}
 use Rattle.demand.specs.Calls.{Call, describe, hook, period, noPeriod, audit, tick, ticked, Entry, asks}

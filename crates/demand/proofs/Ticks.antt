@@ -19,9 +19,11 @@ use Rattle.slots.specs.Slots.{Running, nothing, slotAt, completesAt, quietFor}
 use Rattle.burst.specs.Bursts.{heldMore, agedOf, isDue, begunOf}
 use Rattle.burst.specs.declared.Burst.{Burst}
 use Rattle.burst.specs.declared.Aged.{Aged}
-use Rattle.line.specs.Rules.{oneMore, reportDue, frontAt}
-use Rattle.line.specs.Lines.{countOf, countBy, sinceFront, burstAfter, moveOf, tickOf}
-use Rattle.line.specs.declared.Count.{Count}
+use Rattle.state.specs.Rules.{oneMore, reportDue}
+use Rattle.state.specs.States.{countOf, countBy}
+use Rattle.state.specs.declared.Count.{Count}
+use Rattle.line.specs.Rules.{frontAt}
+use Rattle.line.specs.Lines.{sinceFront, burstAfter, moveOf, tickOf}
 use Rattle.line.specs.declared.Line.{Line}
 use Rattle.demand.specs.History.{Last, at, passed, Started, oneBegun, burstCompletes, burstReady}
 use Rattle.slots.proofs.Ahead.{nextOf, Waits, Good}

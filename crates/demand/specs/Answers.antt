@@ -5,7 +5,8 @@ use Prim.Native.Nat.{ℕ, _+_, _-_, min}
 use Rattle.answers.specs.Fronts.{ifFront}
 use Rattle.slots.specs.Slots.{slotAt, quietFor, completesAt, runsEndless}
 use Rattle.descriptor.specs.Refusals.{ruling, refusalNumber}
-use Rattle.line.specs.Rules.{oneMore, reportDue, frontAt, cancelledBy}
+use Rattle.state.specs.Rules.{oneMore, reportDue}
+use Rattle.line.specs.Rules.{frontAt, cancelledBy}
 use Rattle.demand.specs.Names.{Tick, Ruling, Allowed, TurnedDown}
 use Rattle.demand.specs.Calls.{Call, describe, hook, period, noPeriod, audit, tick, asks, causes, Entry}
 use Rattle.demand.specs.Calls.{Answer, accepted, refused, counters, ticked}

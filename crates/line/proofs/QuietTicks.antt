@@ -14,9 +14,10 @@ use Rattle.tariff.specs.declared.Tariff.{Tariff}
 use Rattle.tariff.specs.declared.Tariff.the-variants.{Idle, Endless, Counted, Phased, Ending}
 use Rattle.burst.specs.Bursts.{isRunning, heldMore, olderOf, completesOf, agedOf, isDue, burstQuiet}
 use Rattle.burst.specs.declared.Burst.{Burst}
-use Rattle.line.specs.Lines.{isOn, countBy, sinceFront, burstAfter, happens, moveOf, quietOf, waitedOf, quickOf}
+use Rattle.state.specs.States.{isOn, countBy, quietOf, waitedOf, quickOf}
+use Rattle.state.specs.declared.State.{State}
+use Rattle.line.specs.Lines.{sinceFront, burstAfter, happens, moveOf}
 use Rattle.line.specs.declared.Line.{Line}
-use Rattle.line.specs.declared.State.{State}
 
 -- what the four parts of `quietOf` say
 record Quiet (D S : ℕ) (s : State) : Type 0 where

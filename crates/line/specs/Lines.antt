@@ -1,13 +1,12 @@
 -- What each command makes of a line and answers: what the code computes.
-use mathlib.Core.Bool.{Bool, true, false, cond, not, _&&_, _||_}
+use mathlib.Core.Bool.{Bool, true, cond, not, _&&_, _||_}
 use Prim.Native.Nat.{ℕ, _+_, _-_, _%_, _^_, max}
-use lib.Dec.{leb, ltb}
-use Rattle.answers.specs.Fronts.{ifFront, ifBurst, silent}
+use lib.Dec.{leb}
+use Rattle.answers.specs.Fronts.{ifFront, ifBurst}
 use Rattle.answers.specs.declared.Front.{Front}
-use Rattle.tariff.specs.Steps.{stepOf, roomOf, emOf, phasedOf, rateOf, isIdle, isEndless}
+use Rattle.tariff.specs.Steps.{stepOf, roomOf, emOf, phasedOf, isEndless}
 use Rattle.tariff.specs.declared.Slot.{Slot}
 use Rattle.tariff.specs.declared.Slot.the-variants.{None as NoSlot, Empty, Pulse}
-use Rattle.tariff.specs.declared.Tariff.{Tariff}
 use Rattle.tariff.specs.declared.Tariff.the-variants.{Idle}
 use Rattle.phase_lists.specs.Lists.{Lists, phasesOf}
 use Rattle.phase_lists.specs.Tables.{noPhases, tableWith}
@@ -24,24 +23,19 @@ use Rattle.descriptor.specs.declared.BurstPart.the-variants.{None as NoBurst, K
 use Rattle.descriptor.specs.declared.Refusal.the-variants.{Configuration}
 use Rattle.descriptor.specs.declared.Hook.{Hook}
 use Rattle.descriptor.specs.declared.Hook.the-variants.{Keep, Stop}
-use Rattle.burst.specs.Bursts.{noBurst, startOf, isRunning, heldMore, olderOf, agedOf, isDue, begunOf, burstQuiet}
+use Rattle.burst.specs.Bursts.{noBurst, startOf, isRunning, heldMore, agedOf, isDue, begunOf}
 use Rattle.burst.specs.declared.Burst.{Burst}
-use Rattle.line.specs.Rules.{oneMore, reportDue, cancelledBy, frontAt}
-use Rattle.line.specs.declared.Counters.{Counters}
-use Rattle.line.specs.declared.State.{State}
+use Rattle.state.specs.States.{zeroCounters, withTariff, withBurst, withCounters, stopped, withRate, countBy, isOn}
+use Rattle.state.specs.declared.State.{State}
+use Rattle.state.specs.declared.Moved.{Moved}
+use Rattle.line.specs.Rules.{cancelledBy, frontAt}
 use Rattle.line.specs.declared.Line.{Line}
 use Rattle.line.specs.declared.Verdict.the-variants.{Accepted, Refused}
 use Rattle.line.specs.declared.Answered.{Answered}
 use Rattle.line.specs.declared.Audited.{Audited}
-use Rattle.line.specs.declared.Moved.{Moved}
-use Rattle.line.specs.declared.Quick.{Quick}
 use Rattle.line.specs.declared.Ticked.{Ticked}
-use Rattle.line.specs.declared.Count.{Count}
 
 -- ---- making a line
-
-abbrev pub zeroCounters : ℕ → Counters
-zeroCounters rp = record { cpc = 0; pcslr = 0; rp = rp }
 
 -- no tariff, burst or report period, and counters 0
 abbrev pub idleLine : ℕ → ℕ → ℕ → ℕ → Line
@@ -78,26 +72,6 @@ originWait l = max 1 (l .spacing - l .state .since)
 abbrev pub withState : Line → State → Line
 withState l s =
     record { pulse = l .pulse; spacing = l .spacing; count = l .count; state = s; phases = l .phases }
-
--- another tariff, with the ticks to its next slot, and these counters
-abbrev pub withTariff : State → ℕ → Tariff → Counters → State
-withTariff s w t n =
-    record { wait = w; clock = s .clock; since = s .since; tariff = t; burst = s .burst; counters = n }
-
-abbrev pub withBurst : State → Burst → State
-withBurst s b =
-    record { wait = s .wait; clock = s .clock; since = s .since; tariff = s .tariff; burst = b; counters = s .counters }
-
-abbrev pub withCounters : State → Counters → State
-withCounters s n = withTariff s (s .wait) (s .tariff) n
-
--- no tariff runs
-abbrev pub stopped : State → State
-stopped s = withTariff s 0 Idle (s .counters)
-
--- a rate: the next slot stays
-abbrev pub withRate : State → ℕ → State
-withRate s P = withTariff s (s .wait) (rateOf P (s .tariff)) (s .counters)
 
 -- a fresh em zeroes the counters
 abbrev pub withEm : Line → ℕ → ℕ → Line
@@ -169,26 +143,12 @@ auditOf l = record { line = l; cpc = l .state .counters .cpc; pcslr = l .state .
 
 -- ---- one tick
 
--- a front adds 1 to both counters, and may give a report
-unfoldable pub countOf : Counters → Count
-countOf n =
-    cond (reportDue (n .rp) (oneMore (n .pcslr)))
-    (record { counters = record { cpc = oneMore (n .cpc); pcslr = 0; rp = n .rp }; report = true })
-    (record { counters = record { cpc = oneMore (n .cpc); pcslr = oneMore (n .pcslr); rp = n .rp }; report = false })
-
--- after a tick with this front or none: the counters, the ticks since the last front, and the burst
-unfoldable pub countBy : Front → Counters → Count
-countBy f n = ifFront f (countOf n) (record { counters = n; report = false })
-
+-- after a tick with this front or none: the ticks since the last front, and the burst
 unfoldable pub sinceFront : Front → ℕ → ℕ
 sinceFront f since = ifFront f 0 since
 
 unfoldable pub burstAfter : Front → Burst → Burst
 burstAfter f b = ifBurst f (begunOf b) b
-
--- a pulse is on: fewer than D ticks since the last front
-abbrev pub isOn : ℕ → ℕ → Bool
-isOn D since = ltb since D
 
 -- something happened: a slot, an empty one too, a front, a completion, or the end of a pulse
 unfoldable pub happens : Slot → Front → Bool → Bool → Bool
@@ -223,32 +183,3 @@ tickOf l = record { line = withState l (moveOf l .state); tick = moveOf l .tick 
 
 unfoldable pub onOf : Line → Bool
 onOf l = isOn (l .pulse) (l .state .since)
-
--- ---- a quiet tick
-
--- nothing is due, nothing ends and no burst pulse may start
-unfoldable pub quietOf : ℕ → ℕ → State → Bool
-quietOf D S s =
-    let since = heldMore S (s .since) in
-    (ltb 1 (s .wait) || isIdle (s .tariff))
-    && (not (isOn D (s .since) && not (isOn D since)) && burstQuiet D (leb S since) (s .burst))
-
--- a quiet tick changes these numbers alone
-unfoldable pub waitedOf : ℕ → State → State
-waitedOf S s =
-    record {
-      wait = s .wait - 1;
-      clock = (s .clock + 1) % 2 ^ 32;
-      since = heldMore S (s .since);
-      tariff = s .tariff;
-      burst = olderOf (s .burst);
-      counters = s .counters;
-    }
-
--- busy, or the tick, where it is quiet
-unfoldable pub quickOf : ℕ → ℕ → State → Quick
-quickOf D S s =
-    record {
-      busy = not (quietOf D S s);
-      moved = record { state = waitedOf S s; tick = silent; event = false };
-    }

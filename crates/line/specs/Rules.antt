@@ -1,21 +1,12 @@
--- Rules of a line that the paper gives in a sentence each: counts, reports, what a tick begins, what is cancelled.
-use mathlib.Core.Bool.{Bool, cond, _&&_}
-use Prim.Native.Nat.{ℕ, _+_, min}
-use lib.Dec.{ltb, eqb}
+-- Rules of a line that the paper gives in a sentence each: what a tick begins, and what is cancelled.
+use mathlib.Core.Bool.{Bool, cond}
+use Prim.Native.Nat.{ℕ}
 use Rattle.answers.specs.declared.Front.{Front}
 use Rattle.answers.specs.declared.Front.the-variants.{None, Tariff, Burst}
 use Rattle.tariff.specs.declared.Slot.{Slot}
 use Rattle.tariff.specs.declared.Slot.the-variants.{None as NoSlot, Empty, Pulse}
 use Rattle.descriptor.specs.declared.BurstPart.{BurstPart}
 use Rattle.descriptor.specs.declared.BurstPart.the-variants.{None as NoBurst, Keep as KeepBurst, Start}
-
--- counts are held at 4,294,967,295
-abbrev pub oneMore : ℕ → ℕ
-oneMore n = min (n + 1) 4294967295
-
--- a front leaves pcslr at n: a report is given if a period rp is set and n equals it; rp = 0 stands for no period
-abbrev pub reportDue : ℕ → ℕ → Bool
-reportDue rp n = ltb 0 rp && eqb n rp
 
 -- a slot due now starts its pulse, or nothing if it is empty; where no slot is due, a burst pulse may start
 abbrev pub frontAt : Slot → Bool → Front

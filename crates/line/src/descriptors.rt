@@ -8,7 +8,6 @@ ghost use Rattle.burst.specs.Bursts.{isRunning};
 ghost use Rattle.line.specs.Rules.{cancelledBy};
 ghost use Rattle.line.specs.Lines.{originWait, withEm, withTable, tariffChanged, burstChanged, describedBy, describeOf};
 use super::Answered;
-use super::Counters;
 use super::Line;
 use super::Verdict;
 use burst::Burst;
@@ -16,6 +15,7 @@ use descriptor::BurstPart;
 use descriptor::Ruling;
 use descriptor::TariffPart;
 use phase_lists::PhaseTable;
+use state::Counters;
 use tariff::Tariff;
 
 // The larger of two numbers.

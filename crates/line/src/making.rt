@@ -2,12 +2,12 @@
 ghost use mathlib.Core.Path.{_≡_};
 ghost use Rattle.line.specs.Lines.{idleLine, freshLine, blankLine, makeOf};
 use super::Answered;
-use super::Counters;
 use super::Line;
-use super::State;
 use super::Verdict;
 use burst::Burst;
 use descriptor::Refusal;
+use state::Counters;
+use state::State;
 use tariff::Tariff;
 
 impl Line {

@@ -2,14 +2,15 @@
 ghost use mathlib.Core.Path.{_≡_};
 ghost use mathlib.Core.Bool.{not, _&&_};
 ghost use Rattle.line.specs.Rules.{frontAt};
-ghost use Rattle.line.specs.Lines.{isOn, sinceFront, burstAfter, happens, moveOf, tickOf, onOf};
+ghost use Rattle.state.specs.States.{isOn};
+ghost use Rattle.line.specs.Lines.{sinceFront, burstAfter, happens, moveOf, tickOf, onOf};
 use super::Line;
-use super::Moved;
-use super::State;
 use super::Ticked;
 use answers::Front;
 use answers::Tick;
 use burst::Burst;
+use state::Moved;
+use state::State;
 use tariff::Slot;
 
 // A slot due now begins its pulse, or nothing if it is empty; where none is due, a burst pulse may begin.

@@ -8,11 +8,11 @@ use descriptor::BurstPart;
 use descriptor::TariffPart;
 use line::Answered;
 use line::Line;
-use line::Moved;
-use line::State;
 use line::Verdict;
 use printing::Answer;
 use script::Command;
+use state::Moved;
+use state::State;
 
 // A gateway: its line, once a configuration was accepted, and the bytes of output held back.
 pub struct Gateway {

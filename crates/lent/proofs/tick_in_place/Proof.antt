@@ -43,27 +43,28 @@ use denote.Triple.Table.{entered, cited}
 use denote.Triple.Clauses.{ensured, lasts}
 use denote.Triple.Walked.{says, Stays, stay-ref, walkOf, AllGo, goes-ref, Walks, ends-at, walked, walk-meets}
 use Rattle.answers.specs.declared.Tick.{Tick}
-use Rattle.line.specs.Lines.{withState, moveOf, tickOf, quietOf, quickOf}
+use Rattle.state.specs.States.{quietOf, quickOf}
+use Rattle.state.specs.declared.State.{State}
+use Rattle.state.specs.declared.Moved.{Moved}
+use Rattle.state.specs.declared.Quick.{Quick}
+use Rattle.line.specs.Lines.{withState, moveOf, tickOf}
 use Rattle.line.specs.declared.Line.{Line}
-use Rattle.line.specs.declared.State.{State}
-use Rattle.line.specs.declared.Moved.{Moved}
-use Rattle.line.specs.declared.Quick.{Quick}
 use Rattle.line.proofs.QuietTicks.{quiet-moves}
 use Rattle.lent.proofs.Answer.{Told, answers}
 use Rattle.line.proofs.Line as L
 use Rattle.line.proofs.Line.Laws as L′
-use Rattle.line.proofs.State as S
-use Rattle.line.proofs.State.Laws as S′
+use Rattle.state.proofs.State as S
+use Rattle.state.proofs.State.Laws as S′
 use Rattle.answers.proofs.Tick as K
 use Rattle.answers.proofs.Tick.Laws as K′
-use Rattle.line.proofs.Moved as N
-use Rattle.line.proofs.Moved.Laws as N′
-use Rattle.line.proofs.Quick as Q
-use Rattle.line.proofs.Quick.Laws as Q′
-use Rattle.line.proofs.State.quick as quick
-use Rattle.line.proofs.State.quick.Symbol as quick-def
-use Rattle.line.proofs.State.quick.Symbol.{name as #line·State·quick}
-use Rattle.line.proofs.State.quick.Met as quick-thm
+use Rattle.state.proofs.Moved as N
+use Rattle.state.proofs.Moved.Laws as N′
+use Rattle.state.proofs.Quick as Q
+use Rattle.state.proofs.Quick.Laws as Q′
+use Rattle.state.proofs.State.quick as quick
+use Rattle.state.proofs.State.quick.Symbol as quick-def
+use Rattle.state.proofs.State.quick.Symbol.{name as #state·State·quick}
+use Rattle.state.proofs.State.quick.Met as quick-thm
 use Rattle.line.proofs.Line.moved as moved
 use Rattle.line.proofs.Line.moved.Symbol as moved-def
 use Rattle.line.proofs.Line.moved.Symbol.{name as #line·Line·moved}
@@ -236,7 +237,7 @@ module _ {M : Type 1} (𝓤 : URA M) (H : Heap 𝓤) (A : Atoms 𝓤) (W : Given
         assigns ! (of-opd ! (load ! (from ! (fld ! refl (fld ! refl (stop !)))) (look-in ! 16 (sub ! 1 refl (sub ! 1 refl (whole !)))))) (from ! (stop !)) (init ! 20 refl (LL.lawful K.the-type K′.the-laws 𝓤 H A W .typed (fast .moved .tick) _ (moved-tick (fast .moved) is) .0)) $
         ends (fast .moved) (quiet-fast h (off (fast .busy) no)) is refl)
 
-  module _ (C : Calls 𝓤 H) (Λ : Loops 𝓤 H) (fm : FmC 𝓤 H (W .laws) C) (knows-quick : Triple 𝓤 (C #line·State·quick) (Quicks 𝓤 H A at-mem run)) (knows-moved : Triple 𝓤 (C #line·Line·moved) (Moves 𝓤 H A at-mem run)) where
+  module _ (C : Calls 𝓤 H) (Λ : Loops 𝓤 H) (fm : FmC 𝓤 H (W .laws) C) (knows-quick : Triple 𝓤 (C #state·State·quick) (Quicks 𝓤 H A at-mem run)) (knows-moved : Triple 𝓤 (C #line·Line·moved) (Moves 𝓤 H A at-mem run)) where
     walk : ent 𝓤 (onEntry 𝓤 H A self.signature (κ, tt) (q, tt) x at) (WpFn 𝓤 H C Λ code.function (vptr b o ∷ []) Post)
     walk =
         qed W ((‵ (flft κ q) ⊛ ‵ ftrue) ∷ ‵ (owns (MutRef (named 0) κ L.the-row ∷ []) x at) ∷ []) ∵ split ! $ move ! (2 ∷ []) $ fsplit ! $ fsplit3 ! $ drop ! $ move ! (0 ∷ 1 ∷ 3 ∷ []) $ keep ! (0 ∷ 1 ∷ 2 ∷ []) $
@@ -259,14 +260,14 @@ module _ {M : Type 1} (𝓤 : URA M) (H : Heap 𝓤) (A : Atoms 𝓤) (W : Given
         goes-on C Λ fm knows-moved was l₀ l₁ l₂ l₃ l₄ l₅ l₆ l₇ l₈ (moved-of fast (k .1 .1)))))))))))))))
 
 module _ {M : Type 1} (𝓤 : URA M) (H : Heap 𝓤) (A : Atoms 𝓤) (W : Given 𝓤 H A) (at-mem : Memory → SProp 𝓤) (run : Routine → Fun 𝓤) where
-  self-walks : (C : Calls 𝓤 H) (Λ : Loops 𝓤 H) → FmC 𝓤 H (W .laws) C → Triple 𝓤 (C #line·State·quick) (Quicks 𝓤 H A at-mem run) → Triple 𝓤 (C #line·Line·moved) (Moves 𝓤 H A at-mem run) → Walks 𝓤 H A self.ended stayed (WpFn 𝓤 H C Λ code.function) (self.clauses 𝓤 H A at-mem run)
+  self-walks : (C : Calls 𝓤 H) (Λ : Loops 𝓤 H) → FmC 𝓤 H (W .laws) C → Triple 𝓤 (C #state·State·quick) (Quicks 𝓤 H A at-mem run) → Triple 𝓤 (C #line·Line·moved) (Moves 𝓤 H A at-mem run) → Walks 𝓤 H A self.ended stayed (WpFn 𝓤 H C Λ code.function) (self.clauses 𝓤 H A at-mem run)
   self-walks C Λ fm k₁ k₂ = walked 𝓤 H A self.ended stayed (self.clauses 𝓤 H A at-mem run) (WpFn 𝓤 H C Λ code.function) (λ κs. (ptr-vals, tt)) (λ κs. (mut-tells (named 0) (κs .0) L.the-row, tt))
       (λ κs qs bounds a _ _. via 𝓤 _ (fst∗ 𝓤 _ (emp 𝓤)) (walk 𝓤 H A W at-mem run (κs .0) (qs .0) (a .0 .ptr .0) (a .0 .ptr .1) (a .0 .name) (a .0 .now) C Λ fm k₁ k₂))
 
   goes : AllGo 𝓤 H A W 1 (self.signature .params) (self.ended .kept) stayed
   goes = (goes-ref 𝓤 H A W 1 0 tt (plain (λ _. L.the-row)), tt)
 
-self-meets : {M : Type 1} (𝓤 : URA M) (H : Heap 𝓤) (A : Atoms 𝓤) → Given 𝓤 H A → (at-mem : Memory → SProp 𝓤) (run : Routine → Fun 𝓤) (𝓣 : Tables 𝓤 H) → Triple 𝓤 (𝓣 .C #line·State·quick) (Quicks 𝓤 H A at-mem run) → Triple 𝓤 (𝓣 .C #line·Line·moved) (Moves 𝓤 H A at-mem run)
+self-meets : {M : Type 1} (𝓤 : URA M) (H : Heap 𝓤) (A : Atoms 𝓤) → Given 𝓤 H A → (at-mem : Memory → SProp 𝓤) (run : Routine → Fun 𝓤) (𝓣 : Tables 𝓤 H) → Triple 𝓤 (𝓣 .C #state·State·quick) (Quicks 𝓤 H A at-mem run) → Triple 𝓤 (𝓣 .C #line·Line·moved) (Moves 𝓤 H A at-mem run)
     → Meets 𝓤 H A self.signature (WpFn 𝓤 H (𝓣 .C) (𝓣 .Λ) code.function) (self.spec 𝓤 H A at-mem run)
 self-meets 𝓤 H A W at-mem run 𝓣 k₁ k₂ = walk-meets 𝓤 H A self.ended stayed W (goes 𝓤 H A W at-mem run) (self.clauses 𝓤 H A at-mem run) (WpFn 𝓤 H (𝓣 .C) (𝓣 .Λ) code.function) (WpFn-mono 𝓤 H (W .laws) 𝓣 code.function)
     (self-walks 𝓤 H A W at-mem run (𝓣 .C) (𝓣 .Λ) (fmOf 𝓤 H (W .laws) 𝓣) k₁ k₂)
@@ -277,5 +278,5 @@ tick-in-place-spec 𝓤 H 𝓜 𝓖 𝓡 =
     entered 𝓤 H (tripleOf 𝓤 H (𝓖 .A) self.signature (self.spec 𝓤 H (𝓖 .A) (𝓜 .mem) (𝓡 .run)))
     (tables 𝓤 H 𝓜 𝓡 code.env .C) (tables 𝓤 H 𝓜 𝓡 code.env .Λ) #lent·tick-in-place code.function (code.unfolded 𝓤 H 𝓜 𝓡)
     (self-meets 𝓤 H (𝓖 .A) (givenOf 𝓤 H 𝓜 𝓖) (𝓜 .mem) (𝓡 .run) (tablesOf 𝓤 H 𝓜 (tables 𝓤 H 𝓜 𝓡 code.env))
-    (cited 𝓤 H (Quicks 𝓤 H (𝓖 .A) (𝓜 .mem) (𝓡 .run)) 𝓜 𝓡 code.env #line·State·quick quick-def.routine code.calls-line·State·quick (quick-thm.met 𝓤 H 𝓜 𝓖 𝓡))
+    (cited 𝓤 H (Quicks 𝓤 H (𝓖 .A) (𝓜 .mem) (𝓡 .run)) 𝓜 𝓡 code.env #state·State·quick quick-def.routine code.calls-state·State·quick (quick-thm.met 𝓤 H 𝓜 𝓖 𝓡))
     (cited 𝓤 H (Moves 𝓤 H (𝓖 .A) (𝓜 .mem) (𝓡 .run)) 𝓜 𝓡 code.env #line·Line·moved moved-def.routine code.calls-line·Line·moved (moved-thm.met 𝓤 H 𝓜 𝓖 𝓡)))

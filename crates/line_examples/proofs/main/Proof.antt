@@ -10,7 +10,8 @@ use Rattle.descriptor.specs.declared.TariffPart.the-variants.{Em}
 use Rattle.descriptor.specs.declared.BurstPart.the-variants.{Keep, Start}
 use Rattle.descriptor.specs.declared.Hook.the-variants.{Stop}
 use Rattle.burst.specs.Bursts.{completesOf, agedOf}
-use Rattle.line.specs.Lines.{freshLine, makeOf, tariffChanged, burstChanged, describeOf, hookOf, countOf, countBy, sinceFront, burstAfter, moveOf, tickOf}
+use Rattle.state.specs.States.{countOf, countBy}
+use Rattle.line.specs.Lines.{freshLine, makeOf, tariffChanged, burstChanged, describeOf, hookOf, sinceFront, burstAfter, moveOf, tickOf}
 use Rattle.line.specs.declared.Answered.{Answered}
 use Rattle.line.specs.declared.Ticked.{Ticked}
 use Rattle.line_examples.specs.Tells.{isTariff, accepts, refuses}

@@ -1,8 +1,8 @@
 -- `State::quick` meets its contract.
-use Rattle.line.specs.Lines.{quickOf}
+use Rattle.state.specs.States.{quickOf}
 use borrow.Author.Needs.{needs}
-use Rattle.line.proofs.State.quick.Statement.{statement}
-use Rattle.line.proofs.State.quick.Tie as tie
+use Rattle.state.proofs.State.quick.Statement.{statement}
+use Rattle.state.proofs.State.quick.Tie as tie
 
 is-quiet-requires : tie.Need-is-quiet-requires
 is-quiet-requires c κs = search needs

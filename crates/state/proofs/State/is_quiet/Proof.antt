@@ -1,8 +1,8 @@
 -- `State::is_quiet` meets its contract.
-use Rattle.line.specs.Lines.{quietOf}
+use Rattle.state.specs.States.{quietOf}
 use borrow.Author.Needs.{needs}
-use Rattle.line.proofs.State.is_quiet.Statement.{statement}
-use Rattle.line.proofs.State.is_quiet.Tie as tie
+use Rattle.state.proofs.State.is_quiet.Statement.{statement}
+use Rattle.state.proofs.State.is_quiet.Tie as tie
 
 held-more-requires : tie.Need-held-more-requires
 held-more-requires c κs = search needs

@@ -1,8 +1,8 @@
 -- `State::waited` meets its contract.
-use Rattle.line.specs.Lines.{waitedOf}
+use Rattle.state.specs.States.{waitedOf}
 use borrow.Author.Needs.{needs}
-use Rattle.line.proofs.State.waited.Statement.{statement}
-use Rattle.line.proofs.State.waited.Tie as tie
+use Rattle.state.proofs.State.waited.Statement.{statement}
+use Rattle.state.proofs.State.waited.Tie as tie
 
 one-less-requires : tie.Need-one-less-requires
 one-less-requires c κs = search needs

@@ -1,15 +1,14 @@
 // The state with another tariff, another burst or other counters.
 ghost use mathlib.Core.Path.{_≡_};
-ghost use Rattle.line.specs.Lines.{withTariff, withBurst, withState, stopped, withRate};
+ghost use Rattle.state.specs.States.{withTariff, withBurst, stopped, withRate};
 use super::Counters;
-use super::Line;
 use super::State;
 use burst::Burst;
 use tariff::Tariff;
 
 impl State {
     // Another tariff, whose next slot is `wait` ticks away, and these counters.
-    pub(crate) fn with_tariff(self, wait: u64, tariff: Tariff, counters: Counters) -> State
+    pub fn with_tariff(self, wait: u64, tariff: Tariff, counters: Counters) -> State
         ensures { λ r. ⌜ r ≡ withTariff self wait tariff counters ⌝ }
     {
         State {
@@ -20,32 +19,24 @@ impl State {
         }
     }
 
-    pub(crate) fn with_burst(self, burst: Burst) -> State
+    pub fn with_burst(self, burst: Burst) -> State
         ensures { λ r. ⌜ r ≡ withBurst self burst ⌝ }
     {
         State { burst, ..self }
     }
 
     // No tariff runs.
-    pub(crate) fn stopped(self) -> State
+    pub fn stopped(self) -> State
         ensures { λ r. ⌜ r ≡ stopped self ⌝ }
     {
         self.with_tariff(0, Tariff::Idle, self.counters)
     }
 
     // A rate: the next slot stays.
-    pub(crate) fn rated(self, interval: u32) -> State
+    pub fn rated(self, interval: u32) -> State
         ensures { λ r. ⌜ r ≡ withRate self interval ⌝ }
     {
         let old = self.tariff;
         self.with_tariff(self.wait, old.rate(interval), self.counters)
-    }
-}
-
-impl Line {
-    pub(crate) fn with_state(self, state: State) -> Line
-        ensures { λ r. ⌜ r ≡ withState self state ⌝ }
-    {
-        Line { state, ..self }
     }
 }

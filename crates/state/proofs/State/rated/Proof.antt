@@ -1,7 +1,7 @@
 -- `State::rated` meets its contract.
 use borrow.Author.Needs.{needs}
-use Rattle.line.proofs.State.rated.Statement.{statement}
-use Rattle.line.proofs.State.rated.Tie as tie
+use Rattle.state.proofs.State.rated.Statement.{statement}
+use Rattle.state.proofs.State.rated.Tie as tie
 
 rate-requires : tie.Need-rate-requires
 rate-requires c κs = search needs

@@ -1,8 +1,8 @@
 -- `Counters::counted` meets its contract.
-use Rattle.line.specs.Lines.{countOf}
-use Rattle.line.proofs.Counters.counted.Statement.{statement}
+use Rattle.state.specs.States.{countOf}
+use Rattle.state.proofs.Counters.counted.Statement.{statement}
 use borrow.Author.Needs.{needs}
-use Rattle.line.proofs.Counters.counted.Tie as tie
+use Rattle.state.proofs.Counters.counted.Tie as tie
 
 one-more-requires : tie.Need-one-more-requires
 one-more-requires c κs = search needs

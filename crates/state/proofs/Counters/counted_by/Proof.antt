@@ -1,8 +1,8 @@
 -- `Counters::counted_by` meets its contract.
-use Rattle.line.specs.Lines.{countBy}
+use Rattle.state.specs.States.{countBy}
 use borrow.Author.Needs.{needs}
-use Rattle.line.proofs.Counters.counted_by.Statement.{statement}
-use Rattle.line.proofs.Counters.counted_by.Tie as tie
+use Rattle.state.proofs.Counters.counted_by.Statement.{statement}
+use Rattle.state.proofs.Counters.counted_by.Tie as tie
 
 enum-told : tie.Need-enum-told
 enum-told c = search needs

@@ -1,7 +1,7 @@
 // The counters: a front adds 1 to both, and may give a report.
 ghost use mathlib.Core.Path.{_≡_};
-ghost use Rattle.line.specs.Rules.{oneMore, reportDue};
-ghost use Rattle.line.specs.Lines.{countOf, countBy};
+ghost use Rattle.state.specs.Rules.{oneMore, reportDue};
+ghost use Rattle.state.specs.States.{countOf, countBy};
 use super::Count;
 use super::Counters;
 use answers::Front;
@@ -22,7 +22,7 @@ fn report_due(rp: u32, n: u32) -> bool
 
 impl Counters {
     // After a front.
-    pub(crate) fn counted(self) -> Count
+    fn counted(self) -> Count
         ensures { λ r. ⌜ r ≡ countOf self ⌝ }
     {
         let cpc = one_more(self.cpc);
@@ -48,7 +48,7 @@ impl Counters {
         }
     }
     // After a tick with this front or none.
-    pub(crate) fn counted_by(self, front: Front) -> Count
+    pub fn counted_by(self, front: Front) -> Count
         ensures { λ r. ⌜ r ≡ countBy front self ⌝ }
     {
         match front {

@@ -1,7 +1,7 @@
 // Quiet ticks: nothing is due, nothing ends, no burst pulse may start, and time goes on.
 ghost use mathlib.Core.Path.{_≡_};
 ghost use Prim.Native.Nat.{_-_};
-ghost use Rattle.line.specs.Lines.{quietOf, waitedOf, quickOf};
+ghost use Rattle.state.specs.States.{quietOf, waitedOf, quickOf};
 use super::Moved;
 use super::Quick;
 use super::State;
