@@ -1,6 +1,7 @@
 // The line of a metering gateway: its record, its calls and their answers.
 ghost use mathlib.Core.Path.{_≡_};
 ghost use Rattle.line.specs.Lines.{withState};
+
 mod descriptors;
 mod hooks;
 mod making;
