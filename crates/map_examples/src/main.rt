@@ -1,8 +1,8 @@
 // Runs the published examples of H.248.26, 6.5.4, and prints each with its clause.
+use fractions::Parameters;
 use libc::STDOUT_FILENO;
 use pulse_map::Count;
 use pulse_map::Element;
-use pulse_map::Parameters;
 
 fn print_text(text: &[u8]) {
     io::write_all(STDOUT_FILENO, text);
@@ -67,7 +67,7 @@ fn print_map(clause: &[u8], pcx: u32, repx: u32, pcn: u32, repn: u32, n: u32, k:
 
 // The same of a tariff of a/b pulses over n elements.
 fn print_tariff(clause: &[u8], a: u32, b: u32, n: u32, k: u32) {
-    match pulse_map::parameters_of(a, b, n) {
+    match fractions::parameters_of(a, b, n) {
         Parameters::Given {
             pcn,
             pcx,

@@ -5,5 +5,4 @@ pub mod Prefix
 pub mod Words
 pub mod Table
 pub mod Refusals
-pub mod Components
 pub mod Intervals

@@ -8,7 +8,7 @@ use native.Mathlib.Omega.{arith}
 use lib.ListN.{take, replicate}
 use lib.Seq.{take-nil}
 use borrow.Author.Tests.{le-leb, lt-leb}
-use Rattle.pulse_map.specs.Rounding.{roundedHalfUp}
+use Rattle.fractions.specs.Rounding.{roundedHalfUp}
 use Rattle.pulse_map.specs.Map.{Entry, X, N, xGroups, nGroups, mapOf, bitOf, xsIn}
 use Rattle.pulse_map.proofs.Choice.{by-order}
 use Rattle.pulse_map.proofs.Laws.{x-groups-xs, prefix-le, prefix-le-whole}

@@ -4,7 +4,8 @@ use mathlib.Core.Bool.{Bool, true, false, _||_, true≢false}
 use Prim.Native.Nat.{ℕ, _+_, _≤_}
 use lib.Dec.{ltb}
 use borrow.Author.Tests.{ltb-false}
-use Rattle.pulse_map.specs.Refusals.{outside, noMap}
+use Rattle.fractions.specs.Answers.{outside}
+use Rattle.pulse_map.specs.Refusals.{noMap}
 
 pub record HasMap (repx repn k : ℕ) : Type 0 where
   pub some : 1 ≤ repx + repn

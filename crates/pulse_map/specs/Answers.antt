@@ -1,20 +1,11 @@
--- What the paper answers: the number of a refusal, or what was asked for.
+-- What the paper answers of a map: refusal 11, or what was asked for.
 use mathlib.Core.Bool.{cond}
 use Prim.Native.Nat.{ℕ, _+_}
 use lib.ListN.{getD, take}
-use Rattle.pulse_map.specs.Components.{Components, componentsOf}
+use Rattle.fractions.specs.Answers.{Result, refused, given}
 use Rattle.pulse_map.specs.Map.{Entry, N, mapOf, xsIn}
 use Rattle.pulse_map.specs.Pulses.{pulsesIn}
-use Rattle.pulse_map.specs.Refusals.{noTariff, noMap}
-
--- a refusal with its number, or what is given
-pub data Result (A : Type 0) : Type 0 where
-  refused : (number : ℕ) → Result A
-  given : (value : A) → Result A
-
--- a/b pulses over n elements
-abbrev pub parametersAnswer : ℕ → ℕ → ℕ → Result Components
-parametersAnswer a b n = cond (noTariff a b n) (refused 9) (given (componentsOf a b n))
+use Rattle.pulse_map.specs.Refusals.{noMap}
 
 -- element i of a map
 abbrev pub elementAnswer : ℕ → ℕ → ℕ → Result Entry

@@ -2,7 +2,7 @@
 use mathlib.Core.Path.{_≡_, refl}
 use mathlib.Core.List.{List, [], _∷_, map}
 use Prim.Native.Nat.{ℕ}
-use Rattle.pulse_map.specs.Components.{componentsOf}
+use Rattle.fractions.specs.Components.{componentsOf}
 use Rattle.pulse_map.specs.Map.{mapOf, xGroups, nGroups}
 use Rattle.pulse_map.specs.Pulses.{pulsesOf}
 

@@ -1,6 +1,4 @@
 -- The definitions that the contracts cite, lowest first.
-pub mod Rounding
-pub mod Components
 pub mod Map
 pub mod Words
 pub mod Pulses

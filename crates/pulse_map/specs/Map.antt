@@ -4,7 +4,7 @@ use mathlib.Core.List.{List, [], _∷_, _++_}
 use Prim.Native.Nat.{ℕ, zero, suc, _+_, _-_, _/_, min}
 use lib.Dec.{leb}
 use lib.ListN.{replicate}
-use Rattle.pulse_map.specs.Rounding.{roundedHalfUp}
+use Rattle.fractions.specs.Rounding.{roundedHalfUp}
 
 -- an interval with an entry X has pcx pulses, one with an entry N has pcn
 pub data Entry : Type 0 where

@@ -1,19 +1,11 @@
 -- The paper's number and values of each case that a public function returns.
 use Prim.Native.Nat.{ℕ}
-use Rattle.pulse_map.specs.Components.{Components}
+use Rattle.fractions.specs.Answers.{Result, refused, given}
 use Rattle.pulse_map.specs.Map.{Entry, X, N}
-use Rattle.pulse_map.specs.Answers.{Result, refused, given}
-use Rattle.pulse_map.specs.declared.Parameters.{Parameters}
-use Rattle.pulse_map.specs.declared.Parameters.the-variants.{Given as GivenParameters, Refused as NoParameters}
 use Rattle.pulse_map.specs.declared.Element.{Element}
 use Rattle.pulse_map.specs.declared.Element.the-variants.{X as ElementX, N as ElementN, Refused as NoElement}
 use Rattle.pulse_map.specs.declared.Count.{Count}
 use Rattle.pulse_map.specs.declared.Count.the-variants.{Given as GivenCount, Refused as NoCount}
-
--- the parameters of a tariff, or 9
-abbrev pub parametersTold : Parameters → Result Components
-parametersTold (GivenParameters pcn pcx repx repn) = given (record { pcn = pcn; pcx = pcx; repx = repx; repn = repn })
-parametersTold NoParameters = refused 9
 
 -- an element of a map, or 11
 abbrev pub elementTold : Element → Result Entry

@@ -9,7 +9,7 @@ use native.Mathlib.Omega.{arith}
 use borrow.Table.Steps.{cases}
 use lib.Dec.{eqb}
 use Rattle.pulse_map.specs.Pulses.{pulsesIn}
-use Rattle.pulse_map.specs.Rounding.{roundedUp}
+use Rattle.fractions.specs.Rounding.{roundedUp}
 use Rattle.tariff.specs.Rules.{soundPhase}
 use Rattle.tariff.specs.declared.Phase.{Phase}
 use Rattle.tariff.specs.declared.Slot.{Slot}

@@ -4,9 +4,10 @@ use mathlib.Core.List.{List}
 use Prim.Native.Nat.{ℕ, zero, suc, _+_, _-_, _*_, _/_}
 use lib.Dec.{leb, ltb, eqb}
 use lib.ListN.{getD}
+use Rattle.fractions.specs.Answers.{Result, refused, given}
 use Rattle.pulse_map.specs.Pulses.{pulsesOf}
 use Rattle.pulse_map.specs.Map.{Entry}
-use Rattle.pulse_map.specs.Answers.{Result, refused, given, elementAnswer}
+use Rattle.pulse_map.specs.Answers.{elementAnswer}
 use Rattle.tariff.specs.declared.Phase.{Phase}
 use Rattle.tariff.specs.declared.Slot.{Slot}
 use Rattle.tariff.specs.declared.Slot.the-variants.{None, Empty, Pulse}

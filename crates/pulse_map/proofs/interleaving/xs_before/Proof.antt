@@ -3,7 +3,7 @@ use borrow.Author.Needs.{needs}
 use Prim.Native.Nat.{_+_, _*_}
 use native.Mathlib.Omega.{arith}
 use native.Mathlib.Nat.{div-le-self}
-use Rattle.pulse_map.specs.Rounding.{roundedHalfUp}
+use Rattle.fractions.specs.Rounding.{roundedHalfUp}
 use Rattle.pulse_map.proofs.Prefix.{prefix-x, prefix-n}
 use Rattle.pulse_map.proofs.interleaving.xs_before.Statement.{statement}
 use Rattle.pulse_map.proofs.interleaving.xs_before.Tie as tie

@@ -1,9 +1,9 @@
 -- `repx_of` meets its contract: what is rounded fits 64 bits.
 use borrow.Author.Needs.{needs}
 use native.Mathlib.Omega.{arith}
-use Rattle.pulse_map.proofs.Components.{share-top}
-use Rattle.pulse_map.proofs.fractions.repx_of.Statement.{statement}
-use Rattle.pulse_map.proofs.fractions.repx_of.Tie as tie
+use Rattle.fractions.proofs.Components.{share-top}
+use Rattle.fractions.proofs.repx_of.Statement.{statement}
+use Rattle.fractions.proofs.repx_of.Tie as tie
 
 rem-result : tie.Need-rem-result
 rem-result c = search needs

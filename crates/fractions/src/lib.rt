@@ -1,10 +1,19 @@
-// A tariff of a/b pulses per charge interval over n elements.
+// A tariff of a/b pulses per charge interval over n elements: its pulse counts, and how often each stands in its map.
 ghost use mathlib.Core.Path.{_≡_};
 ghost use Prim.Native.Nat.{_<_, _≤_};
-ghost use Rattle.pulse_map.specs.Components.{repxOf};
-ghost use Rattle.pulse_map.specs.Answers.{parametersAnswer};
-ghost use Rattle.pulse_map.specs.Told.{parametersTold};
-use super::Parameters;
+ghost use Rattle.fractions.specs.Components.{repxOf};
+ghost use Rattle.fractions.specs.Answers.{parametersAnswer, parametersTold};
+
+// The parameters of a tariff, or refusal 9.
+pub enum Parameters {
+    Given {
+        pcn: u32,
+        pcx: u32,
+        repx: u32,
+        repn: u32,
+    },
+    Refused,
+}
 
 // n times the fraction part of a/b, rounded half up.
 fn repx_of(a: u64, b: u64, n: u64) -> u64

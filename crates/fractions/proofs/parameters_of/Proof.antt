@@ -2,11 +2,11 @@
 use borrow.Author.Needs.{needs}
 use native.Mathlib.Omega.{arith}
 use borrow.Author.Tests.{eq-eqb, ne-eqb, lt-ltb, le-ltb}
-use Rattle.pulse_map.specs.Components.{pcxOf}
-use Rattle.pulse_map.specs.Refusals.{noTariff}
-use Rattle.pulse_map.proofs.Components.{repx-le}
-use Rattle.pulse_map.proofs.fractions.parameters_of.Statement.{statement}
-use Rattle.pulse_map.proofs.fractions.parameters_of.Tie as tie
+use Rattle.fractions.specs.Components.{pcxOf}
+use Rattle.fractions.specs.Answers.{noTariff}
+use Rattle.fractions.proofs.Components.{repx-le}
+use Rattle.fractions.proofs.parameters_of.Statement.{statement}
+use Rattle.fractions.proofs.parameters_of.Tie as tie
 
 returns : tie.Need-returns
 unfolding noTariff

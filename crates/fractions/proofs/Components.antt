@@ -3,7 +3,7 @@ use mathlib.Core.Path.{_≡_}
 use Prim.Native.Nat.{ℕ, _+_, _*_, _%_, _≤_, _<_}
 use native.Mathlib.Nat.{mod-lt, mul-le-mul-left, mul-le-mul-right, div-lt-iff-lt-mul, mul-zero, div-eq-of-lt, div-eq-of-lt-le, div-add-mod'}
 use native.Mathlib.Omega.{arith}
-use Rattle.pulse_map.specs.Components.{pcnOf, pcxOf, repxOf, repnOf}
+use Rattle.fractions.specs.Components.{pcnOf, pcxOf, repxOf, repnOf}
 
 -- n times the fraction part, before it is divided by b
 share-le : (a b n : ℕ) → 0 < b → n * (a % b) ≤ n * b
