@@ -1,22 +1,32 @@
 -- `Line::set_period` meets its contract.
 use mathlib.Core.Path.{_≡_}
-use mathlib.Core.Bool.{true}
-use lib.Dec.{eqb}
+use Prim.Native.Nat.{ℕ}
 use borrow.Author.Tests.{eq-eqb, ne-eqb}
 use Rattle.descriptor.specs.Refusals.{ruling}
-use Rattle.line.specs.Lines.{periodOf}
+use Rattle.descriptor.specs.declared.Refusal.the-variants.{Period}
+use Rattle.line.specs.Lines.{withPeriod, periodOf}
+use Rattle.line.specs.declared.Line.{Line}
+use Rattle.line.specs.declared.Answered.{Answered}
+use Rattle.line.specs.declared.Verdict.the-variants.{Accepted, Refused}
 use Rattle.line.proofs.Line.set_period.Statement.{statement}
 use Rattle.line.proofs.Line.set_period.Tie as tie
 
+module _ (l : Line) (n : ℕ) where
+  -- a period of 0 leaves the line as it was
+  refuses : n ≡ 0 → _≡_ {A = Answered} (record { line = l; verdict = Refused Period }) (periodOf l n)
+  unfolding periodOf ruling
+  refuses h = rw (eq-eqb n 0 h)
+
+  -- any other is set, and nothing else changes
+  sets : (n ≡ 0 → ⊥) → _≡_ {A = Answered} (record { line = withPeriod l n; verdict = Accepted 0 }) (periodOf l n)
+  unfolding periodOf ruling
+  sets h = rw (ne-eqb n 0 h)
+
 returns : tie.Need-returns
-unfolding periodOf ruling
-returns c =
-    let none : eqb (c .before .args .rp) 0 ≡ true = eq-eqb _ _ (c .if1 .taken) in
-    rw none
+returns c = search refuses
 
 returns-2 : tie.Need-returns-2
-unfolding periodOf ruling
-returns-2 c = rw (ne-eqb _ _ (c .before .if1 .left))
+returns-2 c = search sets
 
 pub set-period-spec : {M : Type 1} → statement M
 set-period-spec = tie.close (tie.spec returns returns-2)
