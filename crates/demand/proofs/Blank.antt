@@ -10,8 +10,10 @@ use borrow.Table.Steps.{cases}
 use lib.Dec.{leb, ltb}
 use lib.ListN.{length}
 use Rattle.answers.specs.Fronts.{isFront}
-use Rattle.tariff.specs.Rules.{within, distanceOf, soundEm, soundNumbers, soundPhase, soundPhases}
-use Rattle.tariff.specs.Steps.{dueOf, stepOf, roomOf, rateOf, isEndless}
+use Rattle.tariff.specs.Ranges.{within}
+use Rattle.rules.specs.Rules.{distanceOf, soundEm, soundNumbers, soundPhase, soundPhases}
+use Rattle.tariff.specs.Tariffs.{roomOf, rateOf, isEndless}
+use Rattle.steps.specs.Steps.{dueOf, stepOf}
 use Rattle.tariff.specs.declared.Tariff.the-variants.{Idle}
 use Rattle.phase_lists.specs.Lists.{Lists, phasesOf, soundLists}
 use Rattle.phase_lists.specs.Tables.{tableWith}

@@ -10,10 +10,11 @@ use borrow.Table.Steps.{cases}
 use lib.Dec.{leb, eqb}
 use Rattle.answers.specs.declared.Front.{Front}
 use Rattle.answers.specs.declared.Front.the-variants.{None, Tariff as TariffFront, Burst as BurstFront}
-use Rattle.tariff.specs.Rules.{within}
-use Rattle.tariff.specs.Steps.{stepOf, roomOf, isEndless}
+use Rattle.tariff.specs.Ranges.{within}
+use Rattle.tariff.specs.Tariffs.{roomOf, isEndless}
+use Rattle.steps.specs.Steps.{stepOf}
 use Rattle.tariff.specs.declared.Phase.{Phase}
-use Rattle.tariff.specs.declared.Stepped.{Stepped}
+use Rattle.steps.specs.declared.Stepped.{Stepped}
 use Rattle.phase_lists.specs.Lists.{Lists, phasesOf}
 use Rattle.phase_lists.specs.Tables.{tableWith}
 use Rattle.descriptor.specs.Refusals.{ruling, soundBurst, tariffCauses, burstCauses}

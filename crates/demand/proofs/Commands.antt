@@ -6,8 +6,8 @@ use Prim.Native.Nat.{ℕ, _+_, _-_, max, _≤_}
 use native.Mathlib.Omega.{arith}
 use lib.ListN.{length}
 use Rattle.answers.specs.declared.Front.the-variants.{None}
-use Rattle.tariff.specs.Rules.{soundEm, soundPhases}
-use Rattle.tariff.specs.Steps.{emOf, phasedOf, rateOf}
+use Rattle.rules.specs.Rules.{soundEm, soundPhases}
+use Rattle.tariff.specs.Tariffs.{emOf, phasedOf, rateOf}
 use Rattle.tariff.specs.declared.Phase.{Phase}
 use Rattle.slots.specs.Slots.{Running, runsEndless}
 use Rattle.phase_lists.specs.Tables.{eightOf, tableWith}

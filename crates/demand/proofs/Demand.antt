@@ -11,7 +11,7 @@ use Rattle.answers.specs.Fronts.{isFront}
 use Rattle.answers.specs.declared.Front.{Front}
 use Rattle.answers.specs.declared.Front.the-variants.{None, Tariff as TariffFront, Burst as BurstFront}
 use Rattle.answers.specs.declared.Tick.{Tick}
-use Rattle.tariff.specs.Rules.{within}
+use Rattle.tariff.specs.Ranges.{within}
 use Rattle.tariff.specs.declared.Slot.{Slot}
 use Rattle.tariff.specs.declared.Slot.the-variants.{None as NoSlot, Empty, Pulse}
 use Rattle.slots.specs.Slots.{slotAt}

@@ -7,10 +7,11 @@ use borrow.Author.Tests.{leb-false, eqb-false, ne-eqb, lt-ltb}
 use lib.Dec.{leb, ltb, eqb}
 use Rattle.answers.specs.declared.Front.{Front}
 use Rattle.answers.specs.declared.Front.the-variants.{None, Tariff as TariffFront, Burst as BurstFront}
-use Rattle.tariff.specs.Steps.{stepOf, roomOf, isEndless}
+use Rattle.tariff.specs.Tariffs.{roomOf, isEndless}
+use Rattle.steps.specs.Steps.{stepOf}
 use Rattle.tariff.specs.declared.Slot.{Slot}
 use Rattle.tariff.specs.declared.Slot.the-variants.{None as NoSlot, Empty, Pulse}
-use Rattle.tariff.specs.declared.Stepped.{Stepped}
+use Rattle.steps.specs.declared.Stepped.{Stepped}
 use Rattle.phase_lists.specs.Lists.{Lists, phasesOf}
 use Rattle.phase_lists.specs.Tables.{tableWith}
 use Rattle.descriptor.specs.declared.Ruling.{Ruling}

@@ -5,7 +5,7 @@ use Prim.Native.Nat.{ℕ, zero, suc, _+_, _*_}
 use native.Mathlib.Omega.{arith}
 use Rattle.pulse_map.specs.Map.{mapOf, xGroups, nGroups}
 use Rattle.pulse_map.specs.Pulses.{pulsesIn}
-use Rattle.tariff.specs.Rules.{soundEm, distanceOf, soundPhase}
+use Rattle.rules.specs.Rules.{soundEm, distanceOf, soundPhase}
 use Rattle.slots.specs.Slots.{anyBelow, countedSlot, phaseSlot}
 use Rattle.descriptor.specs.Refusals.{ruling}
 use Rattle.slots.proofs.Count.{countBelow}

@@ -8,7 +8,7 @@ use borrow.Author.Tests.{leb-true, le-leb}
 use Rattle.answers.specs.Fronts.{ifFront, isFront}
 use Rattle.answers.specs.declared.Front.{Front}
 use Rattle.answers.specs.declared.Front.the-variants.{None, Tariff as TariffFront, Burst as BurstFront}
-use Rattle.tariff.specs.Steps.{stepOf}
+use Rattle.steps.specs.Steps.{stepOf}
 use Rattle.tariff.specs.declared.Slot.{Slot}
 use Rattle.tariff.specs.declared.Slot.the-variants.{None as NoSlot, Empty, Pulse}
 use Rattle.slots.specs.Slots.{slotAt}

@@ -7,7 +7,8 @@ use native.Mathlib.Omega.{arith}
 use borrow.Author.Tests.{leb-true, not-false}
 use lib.Dec.{leb}
 use lib.ListN.{length}
-use Rattle.tariff.specs.Rules.{within, soundEm, soundPhases}
+use Rattle.tariff.specs.Ranges.{within}
+use Rattle.rules.specs.Rules.{soundEm, soundPhases}
 use Rattle.slots.specs.Slots.{Running, runsEndless}
 use Rattle.phase_lists.specs.Lists.{Lists, phasesOf, soundLists}
 use Rattle.descriptor.specs.Refusals.{ruling, soundBurst, tariffCauses, burstCauses}

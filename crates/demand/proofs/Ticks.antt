@@ -9,12 +9,13 @@ use lib.Dec.{leb, eqb}
 use Rattle.answers.specs.Fronts.{ifFront, ifBurst}
 use Rattle.answers.specs.declared.Front.{Front}
 use Rattle.answers.specs.declared.Tick.{Tick}
-use Rattle.tariff.specs.Steps.{stepOf, roomOf}
+use Rattle.tariff.specs.Tariffs.{roomOf}
+use Rattle.steps.specs.Steps.{stepOf}
 use Rattle.tariff.specs.declared.Phase.{Phase}
 use Rattle.tariff.specs.declared.Tariff.{Tariff}
 use Rattle.tariff.specs.declared.Slot.{Slot}
 use Rattle.tariff.specs.declared.Slot.the-variants.{None as NoSlot, Empty, Pulse}
-use Rattle.tariff.specs.declared.Stepped.{Stepped}
+use Rattle.steps.specs.declared.Stepped.{Stepped}
 use Rattle.slots.specs.Slots.{Running, nothing, slotAt, completesAt, quietFor}
 use Rattle.burst.specs.Bursts.{heldMore, agedOf, isDue, begunOf}
 use Rattle.burst.specs.declared.Burst.{Burst}

@@ -1,7 +1,7 @@
 -- The history of a list of calls, each made on the line that the one before handed back or left.
 use mathlib.Core.List.{List, [], _∷_}
 use Prim.Native.Nat.{ℕ}
-use Rattle.tariff.specs.Steps.{isEndless}
+use Rattle.tariff.specs.Tariffs.{isEndless}
 use Rattle.descriptor.specs.Refusals.{refusalNumber, ruling}
 use Rattle.burst.specs.Bursts.{isRunning}
 use Rattle.line.specs.Lines.{makeOf, describeOf, hookOf, periodOf, noPeriodOf, auditOf, tickOf, onOf}

@@ -3,7 +3,7 @@ use mathlib.Core.Path.{_≡_, refl, sym}
 use mathlib.Core.Bool.{Bool}
 use Prim.Native.Nat.{ℕ}
 use borrow.Table.Steps.{cases}
-use Rattle.tariff.specs.Rules.{soundEm, soundPhases}
+use Rattle.rules.specs.Rules.{soundEm, soundPhases}
 use Rattle.phase_lists.specs.Lists.{Lists, phasesOf, soundLists}
 use Rattle.phase_lists.specs.Tables.{tableOf}
 use Rattle.descriptor.specs.Refusals.{ruling, soundBurst, tariffCauses, burstCauses, descriptorCauses}

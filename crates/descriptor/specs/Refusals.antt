@@ -3,7 +3,8 @@ use mathlib.Core.Bool.{Bool, cond, not, _&&_}
 use mathlib.Core.List.{List, [], _∷_, _++_}
 use Prim.Native.Nat.{ℕ}
 use lib.Dec.{eqb}
-use Rattle.tariff.specs.Rules.{within, soundEm, soundPhases}
+use Rattle.tariff.specs.Ranges.{within}
+use Rattle.rules.specs.Rules.{soundEm, soundPhases}
 use Rattle.phase_lists.specs.Lists.{Lists, phasesOf, soundLists}
 use Rattle.descriptor.specs.declared.TariffPart.{TariffPart}
 use Rattle.descriptor.specs.declared.TariffPart.the-variants.{None as NoTariff, Keep as KeepTariff}

@@ -2,7 +2,7 @@
 use mathlib.Core.Bool.{Bool, cond}
 use Prim.Native.Nat.{ℕ}
 use lib.ListN.{take}
-use Rattle.tariff.specs.Rules.{soundEm, soundPhases}
+use Rattle.rules.specs.Rules.{soundEm, soundPhases}
 use Rattle.phase_lists.specs.Lists.{Lists}
 use Rattle.phase_lists.specs.Tables.{noTable, tableOf}
 use Rattle.phase_lists.specs.declared.PhaseTable.{PhaseTable}

@@ -50,7 +50,7 @@ fn rate_ruling(spacing: u32, endless: bool, interval: u32) -> Ruling
     if !endless {
         return Ruling::TurnedDown(Refusal::NoEndlessEm);
     }
-    if !tariff::sound_em(spacing, 0, interval) {
+    if !rules::sound_em(spacing, 0, interval) {
         return Ruling::TurnedDown(Refusal::Interval);
     }
     Ruling::Allowed
@@ -60,7 +60,7 @@ fn rate_ruling(spacing: u32, endless: bool, interval: u32) -> Ruling
 fn em_ruling(spacing: u32, count: u32, period: u32) -> Ruling
     ensures { λ r. ⌜ r ≡ tariffRuling spacing false (Em count period) noTable ⌝ }
 {
-    if !tariff::sound_em(spacing, count, period) {
+    if !rules::sound_em(spacing, count, period) {
         return Ruling::TurnedDown(Refusal::Interval);
     }
     Ruling::Allowed
@@ -74,7 +74,7 @@ fn phased_ruling(spacing: u32, table: PhaseTable) -> Ruling
     if !table.sound {
         return Ruling::TurnedDown(Refusal::Lists);
     }
-    if !tariff::sound_phases(spacing, phases, table.count) {
+    if !rules::sound_phases(spacing, phases, table.count) {
         return Ruling::TurnedDown(Refusal::Phase);
     }
     Ruling::Allowed

@@ -3,7 +3,7 @@ use mathlib.Core.Path.{_≡_, refl}
 use mathlib.Core.Bool.{Bool, not}
 use Prim.Native.Nat.{ℕ}
 use borrow.Author.Tests.{not-false}
-use Rattle.tariff.specs.Steps.{isEndless}
+use Rattle.tariff.specs.Tariffs.{isEndless}
 use Rattle.phase_lists.specs.Lists.{Lists, phasesOf, soundLists}
 use Rattle.phase_lists.specs.Tables.{tableWith, tableOf}
 use Rattle.descriptor.specs.Refusals.{ruling, tariffCauses, burstCauses, descriptorCauses}

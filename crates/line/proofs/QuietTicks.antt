@@ -7,7 +7,8 @@ use native.Mathlib.Omega.{arith}
 use lib.Dec.{leb, ltb}
 use borrow.Author.Tests.{not-true, eqb-true, ltb-false}
 use borrow.Table.Steps.{cases}
-use Rattle.tariff.specs.Steps.{waiting, stepped, dueOf, stepOf, roomOf, isIdle}
+use Rattle.tariff.specs.Tariffs.{roomOf, isIdle}
+use Rattle.steps.specs.Steps.{waiting, stepped, dueOf, stepOf}
 use Rattle.tariff.specs.declared.Phase.{Phase}
 use Rattle.tariff.specs.declared.Slot.the-variants.{None as NoSlot}
 use Rattle.tariff.specs.declared.Tariff.{Tariff}

@@ -4,7 +4,8 @@ use Prim.Native.Nat.{ℕ, _+_, _-_, _%_, _^_, max}
 use lib.Dec.{leb}
 use Rattle.answers.specs.Fronts.{ifFront, ifBurst}
 use Rattle.answers.specs.declared.Front.{Front}
-use Rattle.tariff.specs.Steps.{stepOf, roomOf, emOf, phasedOf, isEndless}
+use Rattle.tariff.specs.Tariffs.{roomOf, emOf, phasedOf, isEndless}
+use Rattle.steps.specs.Steps.{stepOf}
 use Rattle.tariff.specs.declared.Slot.{Slot}
 use Rattle.tariff.specs.declared.Slot.the-variants.{None as NoSlot, Empty, Pulse}
 use Rattle.tariff.specs.declared.Tariff.the-variants.{Idle}

@@ -1,7 +1,7 @@
 // Descriptors: what the table of refusals makes of one, and the line and the answer after it.
 ghost use mathlib.Core.Path.{_≡_};
 ghost use Prim.Native.Nat.{max};
-ghost use Rattle.tariff.specs.Steps.{isEndless};
+ghost use Rattle.tariff.specs.Tariffs.{isEndless};
 ghost use Rattle.phase_lists.specs.Lists.{listsOf};
 ghost use Rattle.descriptor.specs.Rulings.{descriptorRuling};
 ghost use Rattle.burst.specs.Bursts.{isRunning};

@@ -79,7 +79,7 @@ impl Line {
         let old_tariff = s.tariff;
         let old_burst = s.burst;
         let old_counters = s.counters;
-        let t = old_tariff.step(s.wait, self.pulse, phases, self.count);
+        let t = steps::step(old_tariff, s.wait, self.pulse, phases, self.count);
         let b = old_burst.aged(self.pulse);
         let since = burst::held_more(self.spacing, s.since);
         let tariff = t.tariff;

@@ -8,8 +8,8 @@ use borrow.Author.Tests.{leb-true}
 use lib.Dec.{leb}
 use lib.ListN.{length, set, take, replicate, length-append}
 use lib.Seq.{set-at, take-append-seam}
-use Rattle.tariff.specs.Rules.{within}
-use Rattle.tariff.specs.Steps.{noPhase}
+use Rattle.tariff.specs.Ranges.{within}
+use Rattle.tariff.specs.Tariffs.{noPhase}
 use Rattle.tariff.specs.declared.Phase.{Phase}
 use Rattle.phase_lists.specs.Lists.{Lists, phaseOf, firstPhases, soundLists}
 use Rattle.phase_lists.specs.Tables.{eightOf, tableOf}

@@ -4,7 +4,7 @@ use mathlib.Core.List.{List, [], _∷_, _++_}
 use Prim.Native.Nat.{ℕ, zero, suc}
 use lib.Dec.{eqb}
 use lib.ListN.{length, getD}
-use Rattle.tariff.specs.Rules.{within}
+use Rattle.tariff.specs.Ranges.{within}
 use Rattle.tariff.specs.declared.Phase.{Phase}
 
 -- looked at only where the tariff part is phased

@@ -3,7 +3,7 @@ use mathlib.Core.Bool.{true, false, cond}
 use mathlib.Core.List.{List, _++_}
 use Prim.Native.Nat.{_-_}
 use lib.ListN.{length, replicate}
-use Rattle.tariff.specs.Steps.{noPhase}
+use Rattle.tariff.specs.Tariffs.{noPhase}
 use Rattle.tariff.specs.declared.Phase.{Phase}
 use Rattle.phase_lists.specs.Lists.{Lists, phasesOf, soundLists}
 use Rattle.phase_lists.specs.declared.PhaseTable.{PhaseTable}

@@ -1,7 +1,7 @@
 // The seven phase lists of a descriptor, read once into a table of phases.
 ghost use mathlib.Core.Path.{_≡_};
 ghost use lib.ListN.{getD};
-ghost use Rattle.tariff.specs.Steps.{noPhase};
+ghost use Rattle.tariff.specs.Tariffs.{noPhase};
 ghost use Rattle.phase_lists.specs.Lists.{phaseOf, listsOf, soundLists};
 ghost use Rattle.phase_lists.specs.Tables.{noTable, tableOf};
 use tariff::Phase;

@@ -3,7 +3,7 @@ use mathlib.Core.Path.{_≡_}
 use mathlib.Core.Bool.{false}
 use mathlib.Core.List.{List}
 use Prim.Native.Nat.{ℕ, _+_, _-_, _*_, _≤_}
-use Rattle.tariff.specs.Steps.{isEndless}
+use Rattle.tariff.specs.Tariffs.{isEndless}
 use Rattle.tariff.specs.declared.Phase.{Phase}
 use Rattle.tariff.specs.declared.Slot.{Slot}
 use Rattle.tariff.specs.declared.Slot.the-variants.{None, Empty, Pulse}

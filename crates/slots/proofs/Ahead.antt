@@ -5,8 +5,9 @@ use mathlib.Core.List.{List}
 use Prim.Native.Nat.{ℕ, _+_, _-_, _*_, _/_, _%_, max, _≤_, _<_}
 use lib.Dec.{ltb, eqb}
 use lib.ListN.{take, length}
-use Rattle.tariff.specs.Rules.{soundPhases}
-use Rattle.tariff.specs.Steps.{phaseAt, pulsesAt, slotLeft}
+use Rattle.rules.specs.Rules.{soundPhases}
+use Rattle.tariff.specs.Tariffs.{phaseAt, slotLeft}
+use Rattle.steps.specs.Steps.{pulsesAt}
 use Rattle.tariff.specs.declared.Phase.{Phase}
 use Rattle.tariff.specs.declared.Slot.{Slot}
 use Rattle.tariff.specs.declared.Slot.the-variants.{None}

@@ -10,11 +10,11 @@ use native.Mathlib.Omega.{arith}
 use borrow.Table.Steps.{cases}
 use borrow.Author.Tests.{eq-eqb, ne-eqb, ltb-true, ltb-false}
 use lib.Dec.{ltb, eqb}
-use Rattle.tariff.specs.Steps.{distanceAfter, afterCounted}
+use Rattle.steps.specs.Steps.{distanceAfter, afterCounted}
 use Rattle.tariff.specs.declared.Phase.{Phase}
 use Rattle.tariff.specs.declared.Slot.the-variants.{None, Pulse}
 use Rattle.tariff.specs.declared.Tariff.the-variants.{Counted}
-use Rattle.tariff.specs.declared.Waiting.{Waiting}
+use Rattle.steps.specs.declared.Waiting.{Waiting}
 use Rattle.slots.specs.Slots.{countedSlot}
 use Rattle.slots.specs.Slots.{from}
 use Rattle.slots.proofs.Order.{by-order, eqb-same}

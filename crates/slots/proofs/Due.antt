@@ -7,7 +7,8 @@ use native.Mathlib.Omega.{arith}
 use borrow.Table.Steps.{cases}
 use borrow.Author.Tests.{eq-eqb, ne-eqb}
 use lib.Dec.{eqb}
-use Rattle.tariff.specs.Steps.{phaseAt, pulsesAt, dueOf}
+use Rattle.tariff.specs.Tariffs.{phaseAt}
+use Rattle.steps.specs.Steps.{pulsesAt, dueOf}
 use Rattle.tariff.specs.declared.Phase.{Phase}
 use Rattle.tariff.specs.declared.Tariff.{Tariff}
 use Rattle.tariff.specs.declared.Tariff.the-variants.{Idle, Endless, Counted, Phased, Ending}

@@ -5,7 +5,7 @@ use mathlib.Core.List.{List}
 use Prim.Native.Nat.{ℕ, zero, suc, _+_, _≤_}
 use native.Mathlib.Omega.{arith}
 use lib.ListN.{take, length}
-use Rattle.tariff.specs.Steps.{emOf, phasedOf}
+use Rattle.tariff.specs.Tariffs.{emOf, phasedOf}
 use Rattle.tariff.specs.declared.Phase.{Phase}
 use Rattle.tariff.specs.declared.Tariff.the-variants.{Idle, Counted}
 use Rattle.slots.specs.Slots.{endlessSlot, countedSlot, phasedSlot, neverEnd}

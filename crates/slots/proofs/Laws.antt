@@ -9,8 +9,8 @@ use native.Mathlib.Omega.{arith}
 use borrow.Table.Steps.{cases}
 use lib.ListN.{length}
 use lib.Seq.{take-length}
-use Rattle.tariff.specs.Rules.{soundEm, soundPhases}
-use Rattle.tariff.specs.Steps.{emOf, phasedOf}
+use Rattle.rules.specs.Rules.{soundEm, soundPhases}
+use Rattle.tariff.specs.Tariffs.{emOf, phasedOf}
 use Rattle.tariff.specs.declared.Phase.{Phase}
 use Rattle.tariff.specs.declared.Slot.{Slot}
 use Rattle.tariff.specs.declared.Slot.the-variants.{None, Empty, Pulse}

@@ -10,7 +10,7 @@ use borrow.Table.Steps.{cases}
 use lib.Dec.{eqb}
 use Rattle.pulse_map.specs.Pulses.{pulsesIn}
 use Rattle.fractions.specs.Rounding.{roundedUp}
-use Rattle.tariff.specs.Rules.{soundPhase}
+use Rattle.rules.specs.Rules.{soundPhase}
 use Rattle.tariff.specs.declared.Phase.{Phase}
 use Rattle.tariff.specs.declared.Slot.{Slot}
 use Rattle.tariff.specs.declared.Slot.the-variants.{None, Empty, Pulse}

@@ -7,8 +7,9 @@ use native.Mathlib.Nat.{zero-add}
 use native.Mathlib.Omega.{arith}
 use lib.Dec.{eqb}
 use lib.ListN.{take, length}
-use Rattle.tariff.specs.Rules.{soundPhases}
-use Rattle.tariff.specs.Steps.{phaseAt, pulsesAt, phasedOf}
+use Rattle.rules.specs.Rules.{soundPhases}
+use Rattle.tariff.specs.Tariffs.{phaseAt, phasedOf}
+use Rattle.steps.specs.Steps.{pulsesAt}
 use Rattle.tariff.specs.declared.Phase.{Phase}
 use Rattle.tariff.specs.declared.Slot.the-variants.{Empty, Pulse}
 use Rattle.tariff.specs.declared.Tariff.the-variants.{Phased}

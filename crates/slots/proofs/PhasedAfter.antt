@@ -7,10 +7,11 @@ use native.Mathlib.Omega.{arith}
 use borrow.Author.Tests.{ltb-true, ltb-false}
 use borrow.Table.Steps.{cases}
 use lib.Dec.{eqb, ltb, eqb·suc-zero}
-use Rattle.tariff.specs.Steps.{phaseAt, nextEntry, waiting, afterPhase, afterInterval, afterPhased}
+use Rattle.tariff.specs.Tariffs.{phaseAt}
+use Rattle.steps.specs.Steps.{nextEntry, waiting, afterPhase, afterInterval, afterPhased}
 use Rattle.tariff.specs.declared.Phase.{Phase}
 use Rattle.tariff.specs.declared.Tariff.the-variants.{Phased, Ending}
-use Rattle.tariff.specs.declared.Waiting.{Waiting}
+use Rattle.steps.specs.declared.Waiting.{Waiting}
 
 -- after slot j of an interval of m pulses of phase i, which is p: the next slot of the interval, the next interval of the
 -- phase, the next phase, or none

@@ -6,10 +6,11 @@ use Prim.Native.Nat.{ℕ, zero, suc, _+_, _-_, _*_, _≤_, _<_}
 use native.Mathlib.Omega.{arith}
 use borrow.Author.Tests.{ne-eqb}
 use lib.Dec.{eqb, eqb·suc-zero}
-use Rattle.tariff.specs.Steps.{phaseAt, pulsesAt}
+use Rattle.tariff.specs.Tariffs.{phaseAt}
+use Rattle.steps.specs.Steps.{pulsesAt}
 use Rattle.tariff.specs.declared.Phase.{Phase}
 use Rattle.tariff.specs.declared.Tariff.the-variants.{Phased}
-use Rattle.tariff.specs.declared.Waiting.{Waiting}
+use Rattle.steps.specs.declared.Waiting.{Waiting}
 use Rattle.slots.specs.Slots.{neverEnd, seconds}
 use Rattle.tariff.proofs.PhasedList.{after, after-split, after-last}
 use Rattle.slots.proofs.Order.{eqb-same}

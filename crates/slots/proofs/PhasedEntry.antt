@@ -9,7 +9,7 @@ use lib.Dec.{ltb}
 use Rattle.pulse_map.specs.Pulses.{pulsesOf, entryOf}
 use Rattle.pulse_map.specs.Map.{Entry, X, N}
 use Rattle.pulse_map.specs.Refusals.{noMap}
-use Rattle.tariff.specs.Steps.{pulsesAt, nextEntry}
+use Rattle.steps.specs.Steps.{pulsesAt, nextEntry}
 use Rattle.tariff.specs.declared.Phase.{Phase}
 use Rattle.slots.specs.Slots.{intervalPulses}
 

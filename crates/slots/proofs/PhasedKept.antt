@@ -5,9 +5,10 @@ use mathlib.Core.Logic.{_≢_}
 use Prim.Native.Nat.{ℕ, zero, suc, _+_, _-_, _*_, max, _≤_, _<_}
 use native.Mathlib.Nat.{mod-eq-sub-mod, zero-sub}
 use native.Mathlib.Omega.{arith}
-use Rattle.tariff.specs.Steps.{phaseAt, pulsesAt}
+use Rattle.tariff.specs.Tariffs.{phaseAt}
+use Rattle.steps.specs.Steps.{pulsesAt}
 use Rattle.tariff.specs.declared.Phase.{Phase}
-use Rattle.tariff.specs.declared.Waiting.{Waiting}
+use Rattle.steps.specs.declared.Waiting.{Waiting}
 use Rattle.slots.proofs.Ahead.{nextOf, Left, Waits, PhasedGood, Good}
 use Rattle.slots.proofs.PhasedEntry.{entries, next-entry}
 use Rattle.slots.proofs.PhasedSound.{sound-at}

@@ -6,12 +6,13 @@ use Prim.Native.Nat.{ℕ, suc, _+_, _-_, _*_, max, _≤_, _<_}
 use native.Mathlib.Decide.{decLe}
 use native.Mathlib.Omega.{arith}
 use lib.Dec.{eqb}
-use Rattle.tariff.specs.Steps.{phaseAt, pulsesAt, nextEntry}
+use Rattle.tariff.specs.Tariffs.{phaseAt}
+use Rattle.steps.specs.Steps.{pulsesAt, nextEntry}
 use Rattle.tariff.specs.declared.Phase.{Phase}
 use Rattle.tariff.specs.declared.Slot.{Slot}
 use Rattle.tariff.specs.declared.Slot.the-variants.{None, Empty, Pulse}
 use Rattle.tariff.specs.declared.Tariff.the-variants.{Phased}
-use Rattle.tariff.specs.declared.Waiting.{Waiting}
+use Rattle.steps.specs.declared.Waiting.{Waiting}
 use Rattle.slots.specs.Slots.{intervalSlot, phasedSlot}
 use Rattle.tariff.proofs.PhasedList.{after, after-split, after-last}
 use Rattle.slots.proofs.Ahead.{phasesFrom, slotsOf, ahead, PhasedGood}

@@ -6,7 +6,8 @@ use Prim.Native.Nat.{ℕ, zero, suc, _*_, _%_, max, _≤_, _<_}
 use native.Mathlib.Decide.{decLe}
 use native.Mathlib.Nat.{mod-eq-of-lt, mul-le-mul-right, mul-zero}
 use native.Mathlib.Omega.{arith}
-use Rattle.tariff.specs.Steps.{phaseAt, pulsesAt}
+use Rattle.tariff.specs.Tariffs.{phaseAt}
+use Rattle.steps.specs.Steps.{pulsesAt}
 use Rattle.tariff.specs.declared.Phase.{Phase}
 use Rattle.slots.specs.Slots.{intervalPulses}
 use Rattle.slots.proofs.Ahead.{Left, PhasedGood}

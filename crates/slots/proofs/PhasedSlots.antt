@@ -7,7 +7,7 @@ use native.Mathlib.Omega.{arith}
 use borrow.Author.Tests.{lt-ltb, le-ltb, ltb-true, ltb-false}
 use borrow.Table.Steps.{cases}
 use lib.Dec.{ltb, eqb·suc-zero}
-use Rattle.tariff.specs.Steps.{nextEntry}
+use Rattle.steps.specs.Steps.{nextEntry}
 use Rattle.tariff.specs.declared.Phase.{Phase}
 use Rattle.slots.specs.Slots.{intervalSlot, intervalPulses, phaseSlot, phasedSlot}
 use Rattle.slots.proofs.Ahead.{phaseFrom, phasesFrom}

@@ -8,8 +8,8 @@ use borrow.Author.Tests.{leb-true, eqb-true}
 use borrow.Table.Steps.{cases}
 use lib.Dec.{leb, eqb}
 use lib.ListN.{take, drop, length}
-use Rattle.tariff.specs.Rules.{soundPhase, soundPhases, endsBefore}
-use Rattle.tariff.specs.Steps.{phaseAt}
+use Rattle.rules.specs.Rules.{soundPhase, soundPhases, endsBefore}
+use Rattle.tariff.specs.Tariffs.{phaseAt}
 use Rattle.tariff.specs.declared.Phase.{Phase}
 use Rattle.tariff.proofs.Both.{both-left, both-right}
 use Rattle.tariff.proofs.PhasedList.{phase-split}

@@ -6,11 +6,12 @@ use Prim.Native.Nat.{ℕ, _+_, _≤_}
 use native.Mathlib.Omega.{arith}
 use borrow.Table.Steps.{cases}
 use lib.Dec.{ltb}
-use Rattle.tariff.specs.Steps.{phaseAt, pulsesAt, afterCounted, dueOf, stepOf, emOf, rateOf, isEndless}
+use Rattle.tariff.specs.Tariffs.{phaseAt, emOf, rateOf, isEndless}
+use Rattle.steps.specs.Steps.{pulsesAt, afterCounted, dueOf, stepOf}
 use Rattle.tariff.specs.declared.Phase.{Phase}
 use Rattle.tariff.specs.declared.Tariff.{Tariff}
 use Rattle.tariff.specs.declared.Tariff.the-variants.{Idle, Endless, Counted, Phased, Ending}
-use Rattle.tariff.specs.declared.Waiting.{Waiting}
+use Rattle.steps.specs.declared.Waiting.{Waiting}
 use Rattle.slots.specs.Slots.{Running, runsEndless, rated}
 use Rattle.slots.proofs.Ahead.{Good}
 use Rattle.slots.proofs.Agree.{Agree, SameRate, steady, other}

@@ -7,7 +7,8 @@ use native.Mathlib.Omega.{arith}
 use borrow.Table.Steps.{cases}
 use borrow.Author.Tests.{eq-eqb, ne-eqb, le-leb, lt-leb}
 use lib.Dec.{leb, eqb}
-use Rattle.tariff.specs.Steps.{phaseAt, pulsesAt, dueOf, roomOf}
+use Rattle.tariff.specs.Tariffs.{phaseAt, roomOf}
+use Rattle.steps.specs.Steps.{pulsesAt, dueOf}
 use Rattle.tariff.specs.declared.Phase.{Phase}
 use Rattle.tariff.specs.declared.Slot.the-variants.{None}
 use Rattle.tariff.specs.declared.Tariff.{Tariff}

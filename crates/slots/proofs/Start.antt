@@ -6,8 +6,8 @@ use Prim.Native.Nat.{ℕ, zero, suc, _*_, _≤_}
 use native.Mathlib.Omega.{arith}
 use borrow.Author.Tests.{leb-true}
 use lib.Dec.{leb}
-use Rattle.tariff.specs.Rules.{soundEm, distanceOf}
-use Rattle.tariff.specs.Steps.{emOf, phasedOf, rateOf}
+use Rattle.rules.specs.Rules.{soundEm, distanceOf}
+use Rattle.tariff.specs.Tariffs.{emOf, phasedOf, rateOf}
 use Rattle.tariff.specs.declared.Phase.{Phase}
 use Rattle.tariff.specs.declared.Tariff.{Tariff}
 use Rattle.tariff.specs.declared.Tariff.the-variants.{Idle, Endless, Counted, Phased, Ending}

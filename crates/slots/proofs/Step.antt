@@ -7,11 +7,11 @@ use native.Mathlib.Omega.{arith}
 use borrow.Table.Steps.{cases}
 use borrow.Author.Tests.{ltb-true, ltb-false}
 use lib.Dec.{ltb}
-use Rattle.tariff.specs.Steps.{waiting, stepped, dueOf, stepOf}
+use Rattle.steps.specs.Steps.{waiting, stepped, dueOf, stepOf}
 use Rattle.tariff.specs.declared.Phase.{Phase}
 use Rattle.tariff.specs.declared.Slot.{Slot}
 use Rattle.tariff.specs.declared.Slot.the-variants.{None}
-use Rattle.tariff.specs.declared.Stepped.{Stepped}
+use Rattle.steps.specs.declared.Stepped.{Stepped}
 use Rattle.tariff.specs.declared.Tariff.{Tariff}
 use Rattle.tariff.specs.declared.Tariff.the-variants.{Idle, Endless, Counted, Phased, Ending}
 use Rattle.slots.specs.Slots.{from}

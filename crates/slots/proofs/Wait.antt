@@ -7,7 +7,7 @@ use native.Mathlib.Omega.{arith}
 use borrow.Table.Steps.{cases}
 use borrow.Author.Tests.{ne-eqb}
 use lib.Dec.{eqb}
-use Rattle.tariff.specs.Steps.{slotLeft}
+use Rattle.tariff.specs.Tariffs.{slotLeft}
 use Rattle.tariff.specs.declared.Phase.{Phase}
 use Rattle.tariff.specs.declared.Slot.the-variants.{None}
 use Rattle.tariff.specs.declared.Tariff.{Tariff}

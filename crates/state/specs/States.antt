@@ -4,7 +4,7 @@ use Prim.Native.Nat.{ℕ, _+_, _-_, _%_, _^_}
 use lib.Dec.{leb, ltb}
 use Rattle.answers.specs.Fronts.{ifFront, silent}
 use Rattle.answers.specs.declared.Front.{Front}
-use Rattle.tariff.specs.Steps.{rateOf, isIdle}
+use Rattle.tariff.specs.Tariffs.{rateOf, isIdle}
 use Rattle.tariff.specs.declared.Tariff.{Tariff}
 use Rattle.tariff.specs.declared.Tariff.the-variants.{Idle}
 use Rattle.burst.specs.Bursts.{heldMore, olderOf, burstQuiet}

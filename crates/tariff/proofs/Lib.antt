@@ -2,6 +2,5 @@
 pub mod Negated
 pub mod Both
 pub mod PhasedList
-mod SoundFrom
 mod OtherKind
-mod Product
+pub mod Product

@@ -5,7 +5,7 @@ use mathlib.Core.List.{List, [], _∷_}
 use Prim.Native.Nat.{ℕ}
 use denote.Enum.Declared.{tagOf}
 use types.Run.{OneOf, miss}
-use Rattle.tariff.specs.Steps.{isEndless, rateOf}
+use Rattle.tariff.specs.Tariffs.{isEndless, rateOf}
 use Rattle.tariff.specs.declared.Tariff.{Tariff}
 use Rattle.tariff.specs.declared.Tariff.the-variants.{Idle, Endless, Counted, Phased, Ending}
 use Rattle.tariff.proofs.Tariff.{the-type}

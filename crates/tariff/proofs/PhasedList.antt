@@ -6,7 +6,7 @@ use native.Mathlib.Numerals.{add-one}
 use native.Mathlib.Omega.{arith}
 use borrow.Author.Tests.{lt-ltb}
 use lib.ListN.{take, drop, length, getD, length-take, drop-of-length-le}
-use Rattle.tariff.specs.Steps.{phaseAt, noPhase}
+use Rattle.tariff.specs.Tariffs.{phaseAt, noPhase}
 use Rattle.tariff.specs.declared.Phase.{Phase}
 
 -- the phases after phase i, of the first n

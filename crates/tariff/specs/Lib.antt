@@ -1,3 +1,3 @@
 -- The files of this folder, lowest first.
-pub mod Rules
-pub mod Steps
+pub mod Ranges
+pub mod Tariffs

@@ -1,13 +1,9 @@
 // The tariffs of a line: the phases of a phased tariff, and where a running tariff stands.
-mod after;
-mod numbers;
 mod phases;
-mod rules;
+mod room;
 mod setting;
-mod steps;
 
-pub use rules::sound_em;
-pub use rules::sound_phases;
+pub use phases::phase_at;
 
 // A phase of a phased tariff, as a descriptor gives it.
 pub struct Phase {
@@ -50,18 +46,4 @@ pub enum Tariff {
     },
     // No slot is left.
     Ending,
-}
-
-// A tariff, and the ticks to its next slot or to its completion.
-pub struct Waiting {
-    pub tariff: Tariff,
-    pub wait: u64,
-}
-
-// A tariff one tick on, the ticks to its next slot or to its completion, and what that tick has.
-pub struct Stepped {
-    pub tariff: Tariff,
-    pub wait: u64,
-    pub slot: Slot,
-    pub complete: bool,
 }

@@ -1,6 +1,6 @@
 // What the tariff part of a descriptor sets: a fresh em, a fresh phased tariff, or a rate.
 ghost use mathlib.Core.Path.{_≡_};
-ghost use Rattle.tariff.specs.Steps.{emOf, phasedOf, rateOf, isIdle, isEndless};
+ghost use Rattle.tariff.specs.Tariffs.{emOf, phasedOf, rateOf, isIdle, isEndless};
 use super::Phase;
 use super::Tariff;
 use super::phases;

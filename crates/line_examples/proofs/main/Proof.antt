@@ -2,8 +2,9 @@
 use mathlib.Core.Path.{_≡_, refl, _∙_}
 use mathlib.Core.Bool.{true}
 use borrow.Author.Needs.{needs}
-use Rattle.tariff.specs.Rules.{distanceOf, soundEm}
-use Rattle.tariff.specs.Steps.{emOf, stepOf, dueOf}
+use Rattle.rules.specs.Rules.{distanceOf, soundEm}
+use Rattle.tariff.specs.Tariffs.{emOf}
+use Rattle.steps.specs.Steps.{stepOf, dueOf}
 use Rattle.phase_lists.specs.Lists.{noLists}
 use Rattle.descriptor.specs.Refusals.{ruling}
 use Rattle.descriptor.specs.declared.TariffPart.the-variants.{Em}

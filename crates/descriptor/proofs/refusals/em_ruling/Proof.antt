@@ -1,7 +1,7 @@
 -- `em_ruling` meets its contract.
 use mathlib.Core.Path.{_≡_}
 use mathlib.Core.Bool.{false}
-use Rattle.tariff.specs.Rules.{soundEm}
+use Rattle.rules.specs.Rules.{soundEm}
 use Rattle.descriptor.specs.Rulings.{tariffRuling}
 use Rattle.tariff.proofs.Negated.{holds, fails}
 use Rattle.descriptor.proofs.refusals.em_ruling.Statement.{statement}

@@ -2,7 +2,7 @@
 use mathlib.Core.Path.{_≡_}
 use mathlib.Core.Bool.{false}
 use lib.ListN.{take}
-use Rattle.tariff.specs.Rules.{soundPhases}
+use Rattle.rules.specs.Rules.{soundPhases}
 use Rattle.descriptor.specs.Rulings.{tariffRuling}
 use Rattle.tariff.proofs.Negated.{holds, fails}
 use Rattle.descriptor.proofs.refusals.phased_ruling.Statement.{statement}

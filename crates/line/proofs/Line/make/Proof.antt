@@ -5,7 +5,7 @@ use Prim.Native.Nat.{ℕ, _+_, _≤_}
 use native.Mathlib.Omega.{arith}
 use borrow.Author.Tests.{leb-true}
 use lib.Dec.{leb}
-use Rattle.tariff.specs.Rules.{within}
+use Rattle.tariff.specs.Ranges.{within}
 use Rattle.descriptor.specs.Refusals.{soundConfiguration}
 use Rattle.line.specs.Lines.{makeOf}
 use Rattle.tariff.proofs.Negated.{holds, fails}

@@ -1,7 +1,7 @@
 -- `Tariff::em` meets its contract.
 use mathlib.Core.Path.{_≡_, refl}
 use Prim.Native.Nat.{ℕ, zero, suc}
-use Rattle.tariff.specs.Steps.{emOf}
+use Rattle.tariff.specs.Tariffs.{emOf}
 use Rattle.tariff.specs.declared.Tariff.the-variants.{Counted}
 use Rattle.tariff.proofs.Tariff.em.Statement.{statement}
 use Rattle.tariff.proofs.Tariff.em.Tie as tie

@@ -1,6 +1,6 @@
 -- `Tariff::phased` meets its contract.
 use borrow.Author.Needs.{needs}
-use Rattle.tariff.specs.Steps.{phasedOf}
+use Rattle.tariff.specs.Tariffs.{phasedOf}
 use Rattle.tariff.proofs.Tariff.phased.Statement.{statement}
 use Rattle.tariff.proofs.Tariff.phased.Tie as tie
 

@@ -1,6 +1,6 @@
 -- `Tariff::rate` meets its contract.
 use borrow.Author.Needs.{needs}
-use Rattle.tariff.specs.Steps.{rateOf}
+use Rattle.tariff.specs.Tariffs.{rateOf}
 use Rattle.tariff.proofs.OtherKind.{not-rated}
 use Rattle.tariff.proofs.Tariff.rate.Statement.{statement}
 use Rattle.tariff.proofs.Tariff.rate.Tie as tie
