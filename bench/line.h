@@ -131,7 +131,7 @@ static unsigned count_front(struct line *l)
     l->since = 0;
     l->cpc += l->cpc < UINT32_MAX;
     l->pcslr += l->pcslr < UINT32_MAX;
-    if (l->report_period == 0 || l->pcslr != l->report_period)
+    if (l->report_period == 0 || l->pcslr < l->report_period)
         return 0;
     l->pcslr = 0;
     return REPORT;

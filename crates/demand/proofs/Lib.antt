@@ -16,6 +16,7 @@ pub mod Bound
 pub mod Sum
 pub mod Spacing
 pub mod Demand
+pub mod Reports
 pub mod Bounds
 pub mod Refused
 pub mod Blank

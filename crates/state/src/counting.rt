@@ -17,7 +17,7 @@ fn one_more(n: u32) -> u32
 fn report_due(rp: u32, n: u32) -> bool
     ensures { λ r. ⌜ r ≡ reportDue rp n ⌝ }
 {
-    (0 < rp) & (n == rp)
+    (0 < rp) & (rp <= n)
 }
 
 impl Counters {
