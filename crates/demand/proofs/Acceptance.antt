@@ -6,7 +6,7 @@ use Prim.Native.Nat.{ℕ, _≤_}
 use Rattle.slots.specs.Slots.{runsEndless}
 use Rattle.descriptor.specs.Refusals.{refusalNumber, Cause, ruling}
 use Rattle.descriptor.specs.declared.Refusal.{Refusal}
-use Rattle.line.specs.Rules.{cancelledBy}
+use Rattle.descriptor.specs.Cancelled.{cancelledBy}
 use Rattle.descriptor.proofs.Table.{Applies, Ascending, none-applies, refused-applies, refused-lowest, descriptor-ascends, period-ascends}
 use Rattle.demand.specs.Names.{Ruling, Allowed, TurnedDown}
 use Rattle.demand.specs.Calls.{Call, describe, hook, period, noPeriod, audit, tick, Answer, accepted, refused, counters, ticked, Entry, asks, causes}

@@ -3,7 +3,7 @@ use mathlib.Core.Path.{_≡_, refl, sym, ap}
 use mathlib.Core.Bool.{false}
 use mathlib.Core.List.{List}
 use Prim.Native.Nat.{ℕ, _+_}
-use Rattle.line.specs.Rules.{cancelledBy}
+use Rattle.descriptor.specs.Cancelled.{cancelledBy}
 use Rattle.descriptor.specs.Refusals.{refusalNumber}
 use Rattle.demand.specs.Names.{KeepHook, Stop, Ruling, Allowed, TurnedDown}
 use Rattle.demand.specs.Calls.{Call, describe, hook, period, noPeriod, audit, tick, Answer, accepted, refused, counters, ticked, Entry, asks}

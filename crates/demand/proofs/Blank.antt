@@ -19,8 +19,10 @@ use Rattle.phase_lists.specs.Lists.{Lists, phasesOf, soundLists}
 use Rattle.phase_lists.specs.Tables.{tableWith}
 use Rattle.descriptor.specs.Refusals.{ruling, soundConfiguration, tariffCauses, burstCauses}
 use Rattle.burst.specs.Bursts.{isRunning, heldMore, agedOf, isDue}
-use Rattle.line.specs.Rules.{cancelledBy, frontAt}
-use Rattle.line.specs.Lines.{blankLine, makeOf, describeOf, hookOf, periodOf, noPeriodOf, auditOf, answeredBy, tariffChanged, burstChanged, withPeriod, sinceFront, moveOf, tickOf}
+use Rattle.descriptor.specs.Cancelled.{cancelledBy}
+use Rattle.ticking.specs.Rules.{frontAt}
+use Rattle.ticking.specs.Moves.{sinceFront, movedBy}
+use Rattle.line.specs.Lines.{blankLine, makeOf, describeOf, hookOf, periodOf, noPeriodOf, auditOf, answeredBy, tariffChanged, burstChanged, withPeriod, moveOf, tickOf}
 use Rattle.line.specs.declared.Line.{Line}
 use Rattle.demand.specs.Names.{Front, NoFront, TariffFront, BurstFront, Phase, TariffPart, NoTariff, KeepTariff, Rate, Em, Phased, BurstPart, NoBurst, KeepBurst, Start, KeepHook, Stop, Ruling, Allowed, TurnedDown}
 use Rattle.demand.specs.Calls.{Call, describe, hook, period, noPeriod, audit, tick, Answer, ticked, Entry, asks}
@@ -85,12 +87,12 @@ module _ (i : ℕ) where
 
   -- ---- a tick
   front-due : (l : Line) → Quiet i l → i + 1 < 4294967295 → moveOf l .tick .front ≡ NoFront
-  unfolding moveOf stepOf dueOf
+  unfolding movedBy stepOf dueOf
   front-due l x early =
       rw (x .tariff, x .wait, lt-leb (l .spacing) (heldMore (l .spacing) (l .state .since)) (omega (arith, x .spacing, x .since, early)), and-false (isDue (agedOf (l .pulse) (l .state .burst) .burst)))
 
   tick-quiet : (l : Line) → Quiet i l → Quiet (i + 1) (tickOf l .line)
-  unfolding tickOf moveOf stepOf dueOf
+  unfolding tickOf movedBy stepOf dueOf
   tick-quiet l x =
       record { spacing = x .spacing; tariff = rw (x .tariff, x .wait); wait = rw (x .tariff, x .wait); since = since-bounded (i + 1) (heldMore (l .spacing) (l .state .since)) _ (omega (arith, x .since)) }
 

@@ -32,8 +32,10 @@ use Rattle.state.specs.Rules.{oneMore, reportDue}
 use Rattle.state.specs.States.{countOf, countBy}
 use Rattle.state.specs.declared.Counters.{Counters}
 use Rattle.state.specs.declared.State.{State}
-use Rattle.line.specs.Rules.{cancelledBy, frontAt}
-use Rattle.line.specs.Lines.{freshLine, describeOf, hookOf, periodOf, noPeriodOf, auditOf, answeredBy, tariffChanged, burstChanged, withPeriod, sinceFront, burstAfter, moveOf, tickOf}
+use Rattle.descriptor.specs.Cancelled.{cancelledBy}
+use Rattle.ticking.specs.Rules.{frontAt}
+use Rattle.ticking.specs.Moves.{sinceFront, burstAfter, movedBy}
+use Rattle.line.specs.Lines.{freshLine, describeOf, hookOf, periodOf, noPeriodOf, auditOf, answeredBy, tariffChanged, burstChanged, withPeriod, tickOf}
 use Rattle.line.specs.declared.Line.{Line}
 use Rattle.demand.specs.Calls.{Call, describe, hook, period, noPeriod, audit, tick, Entry}
 use Rattle.demand.specs.Machine.{rulingOf, Outcome, outcome, answered, step}
@@ -158,7 +160,7 @@ counted-bounded TariffFront n x = count-bounded n
 counted-bounded BurstFront n x = count-bounded n
 
 tick-bounded : (l : Line) → Bounded l → Bounded (tickOf l .line)
-unfolding tickOf moveOf
+unfolding tickOf movedBy
 tick-bounded l x =
     let s = l .state in
     let t : Stepped = stepOf (l .pulse) (l .phases) (l .count) (s .tariff) (s .wait) in

@@ -20,7 +20,7 @@ use Rattle.descriptor.specs.declared.Ruling.the-variants.{Allowed, TurnedDown}
 use Rattle.descriptor.specs.declared.TariffPart.{TariffPart}
 use Rattle.descriptor.specs.declared.TariffPart.the-variants.{None as NoTariff, Keep as KeepTariff, Rate, Em, Phased}
 use Rattle.descriptor.specs.declared.Hook.the-variants.{Stop}
-use Rattle.line.specs.Rules.{frontAt}
+use Rattle.ticking.specs.Rules.{frontAt}
 use Rattle.line.specs.Lines.{freshLine, makeOf, onOf}
 use Rattle.line.specs.declared.Line.{Line}
 use Rattle.demand.specs.Calls.{Call, hook, audit, Answer, accepted, counters, ticked, Entry, asks}

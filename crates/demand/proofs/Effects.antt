@@ -24,8 +24,10 @@ use Rattle.descriptor.specs.declared.Hook.the-variants.{Keep, Stop}
 use Rattle.burst.specs.Bursts.{burstWith, isRunning, heldMore, completesOf, agedOf, isDue}
 use Rattle.burst.specs.declared.Aged.{Aged}
 use Rattle.state.specs.States.{countBy}
-use Rattle.line.specs.Rules.{cancelledBy, frontAt}
-use Rattle.line.specs.Lines.{describeOf, hookOf, periodOf, noPeriodOf, auditOf, moveOf, tickOf, onOf, answeredBy, tariffChanged, burstChanged, withState, withPeriod, sinceFront, burstAfter}
+use Rattle.descriptor.specs.Cancelled.{cancelledBy}
+use Rattle.ticking.specs.Rules.{frontAt}
+use Rattle.ticking.specs.Moves.{sinceFront, burstAfter, movedBy}
+use Rattle.line.specs.Lines.{describeOf, hookOf, periodOf, noPeriodOf, auditOf, tickOf, onOf, answeredBy, tariffChanged, burstChanged, withState, withPeriod}
 use Rattle.line.specs.declared.Line.{Line}
 use Rattle.line.specs.declared.Ticked.{Ticked}
 use Rattle.demand.specs.Calls.{Call, describe, hook, period, noPeriod, audit, tick, ticked, Entry, asks}
@@ -143,7 +145,7 @@ module _ (l : Line) (cfg : Config (l .pulse) (l .spacing)) (good : Good (l .spac
     with-aged x e = rw e (by (t′ .slot) may-start refl (next-step S (l .pulse) (l .phases) (l .count) some fits (l .state .tariff) (l .state .wait) good))
 
     tick-effect : TickEffect (tickOf l)
-    unfolding tickOf moveOf
+    unfolding tickOf movedBy
     tick-effect = with-aged (agedOf (l .pulse) (l .state .burst)) (ap (agedOf (l .pulse)) owing ∙ aged-is (l .pulse) m g k)
 
   -- ---- the other calls

@@ -17,7 +17,7 @@ use Rattle.descriptor.specs.declared.BurstPart.{BurstPart}
 use Rattle.descriptor.specs.declared.BurstPart.the-variants.{None as NoBurst}
 use Rattle.descriptor.specs.declared.Hook.the-variants.{Keep, Stop}
 use Rattle.burst.specs.Bursts.{noBurst}
-use Rattle.line.specs.Rules.{cancelledBy}
+use Rattle.descriptor.specs.Cancelled.{cancelledBy}
 use Rattle.line.specs.Lines.{freshLine, describeOf, hookOf, periodOf, noPeriodOf, auditOf, tickOf, onOf, answeredBy, tariffChanged, burstChanged, withPeriod, idleLine}
 use Rattle.line.specs.declared.Line.{Line}
 use Rattle.demand.specs.Calls.{Call, describe, hook, period, noPeriod, audit, tick, Answer, accepted, counters, ticked, Entry}

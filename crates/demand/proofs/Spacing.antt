@@ -13,7 +13,7 @@ use Rattle.tariff.specs.declared.Slot.{Slot}
 use Rattle.tariff.specs.declared.Slot.the-variants.{None as NoSlot, Empty, Pulse}
 use Rattle.slots.specs.Slots.{slotAt}
 use Rattle.descriptor.specs.declared.Ruling.the-variants.{Allowed, TurnedDown}
-use Rattle.line.specs.Rules.{frontAt}
+use Rattle.ticking.specs.Rules.{frontAt}
 use Rattle.line.specs.declared.Line.{Line}
 use Rattle.demand.specs.Calls.{Call, Answer, Entry, Asked, asks}
 use Rattle.demand.specs.History.{unlessRefused, granted, told, frontOf, ticks, Last, at, passed, lastFront, burstIn, burstReady, running}

@@ -15,7 +15,8 @@ use Rattle.descriptor.specs.declared.Ruling.the-variants.{Allowed, TurnedDown}
 use Rattle.descriptor.specs.declared.BurstPart.{BurstPart}
 use Rattle.descriptor.specs.declared.BurstPart.the-variants.{None as NoBurst, Keep as KeepBurst, Start}
 use Rattle.descriptor.specs.declared.Hook.the-variants.{Keep, Stop}
-use Rattle.line.specs.Rules.{cancelledBy, frontAt}
+use Rattle.descriptor.specs.Cancelled.{cancelledBy}
+use Rattle.ticking.specs.Rules.{frontAt}
 use Rattle.line.specs.Lines.{onOf}
 use Rattle.line.specs.declared.Line.{Line}
 use Rattle.demand.specs.Calls.{Call, describe, hook, period, noPeriod, audit, tick, Answer, accepted, refused, counters, ticked, Entry, asks}

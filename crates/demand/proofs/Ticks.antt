@@ -23,8 +23,9 @@ use Rattle.burst.specs.declared.Aged.{Aged}
 use Rattle.state.specs.Rules.{oneMore, reportDue}
 use Rattle.state.specs.States.{countOf, countBy}
 use Rattle.state.specs.declared.Count.{Count}
-use Rattle.line.specs.Rules.{frontAt}
-use Rattle.line.specs.Lines.{sinceFront, burstAfter, moveOf, tickOf}
+use Rattle.ticking.specs.Rules.{frontAt}
+use Rattle.ticking.specs.Moves.{sinceFront, burstAfter, movedBy}
+use Rattle.line.specs.Lines.{tickOf}
 use Rattle.line.specs.declared.Line.{Line}
 use Rattle.demand.specs.History.{Last, at, passed, Started, oneBegun, burstCompletes, burstReady}
 use Rattle.slots.proofs.Ahead.{nextOf, Waits, Good}
@@ -170,6 +171,6 @@ module _ (D S clock : ℕ) (cfg : Config D S) where
 
   pub tick-at : {i : ℕ} {last : Last} {b : Started} {r : Running} {cpc pcslr rp : ℕ} {l : Line} → At D S clock i last b r cpc pcslr rp l →
       (tickOf l .tick ≡ tickTold i last b r pcslr rp (frontDue i last b r)) × After i last b r cpc pcslr rp (tickOf l .tick) (tickOf l .line)
-  unfolding tickOf moveOf
+  unfolding tickOf movedBy
   tick-at {i} {last} {b} {r} {cpc} {pcslr} {rp} (line-at {v = v} {w = w} {t = t} {ps = ps} {n = n} {u = u} e before a g x y) =
       both i last b r cpc pcslr rp t w ps n u v e before a g x y

@@ -6,8 +6,8 @@ use Rattle.answers.specs.Fronts.{ifFront}
 use Rattle.slots.specs.Slots.{slotAt, quietFor, completesAt, runsEndless}
 use Rattle.descriptor.specs.Refusals.{ruling, refusalNumber}
 use Rattle.state.specs.Rules.{oneMore, reportDue}
-use Rattle.line.specs.Rules.{frontAt, cancelledBy}
-use Rattle.demand.specs.Names.{Tick, Ruling, Allowed, TurnedDown}
+use Rattle.ticking.specs.Rules.{frontAt}
+use Rattle.demand.specs.Names.{Tick, Ruling, Allowed, TurnedDown, cancelledBy}
 use Rattle.demand.specs.Calls.{Call, describe, hook, period, noPeriod, audit, tick, asks, causes, Entry}
 use Rattle.demand.specs.Calls.{Answer, accepted, refused, counters, ticked}
 use Rattle.demand.specs.History.{ticks, lastFront, passed, burstIn, owed, burstCompletes, burstRuns, burstReady}

@@ -1,4 +1,4 @@
--- What calls carry and ticks tell, under names that do not clash.
+-- What calls carry and ticks tell, under names that do not clash, and what a burst part cancels.
 pub use Rattle.answers.specs.declared.Front.{Front}
 pub use Rattle.answers.specs.declared.Front.the-variants.{None as NoFront, Tariff as TariffFront, Burst as BurstFront}
 pub use Rattle.answers.specs.declared.Tick.{Tick}
@@ -14,3 +14,4 @@ pub use Rattle.descriptor.specs.declared.Hook.{Hook}
 pub use Rattle.descriptor.specs.declared.Hook.the-variants.{Keep as KeepHook, Stop}
 pub use Rattle.descriptor.specs.declared.Ruling.{Ruling}
 pub use Rattle.descriptor.specs.declared.Ruling.the-variants.{Allowed, TurnedDown}
+pub use Rattle.descriptor.specs.Cancelled.{cancelledBy}

@@ -1,3 +1,4 @@
 -- The files of this folder, lowest first.
 pub mod Refusals
 pub mod Rulings
+pub mod Cancelled

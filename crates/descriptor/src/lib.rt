@@ -1,7 +1,9 @@
 // A descriptor and an on-hook event: what they carry, the table of phases, and what the table of refusals makes of them.
+mod cancelling;
 mod refusals;
 mod tables;
 
+pub use cancelling::cancelled_by;
 pub use refusals::ruling_on;
 pub use refusals::sound_configuration;
 pub use tables::phases_for;

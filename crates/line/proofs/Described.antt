@@ -14,7 +14,7 @@ use Rattle.descriptor.specs.declared.TariffPart.{TariffPart}
 use Rattle.descriptor.specs.declared.TariffPart.the-variants.{None as NoTariff, Keep as KeepTariff, Rate, Em, Phased}
 use Rattle.descriptor.specs.declared.BurstPart.{BurstPart}
 use Rattle.burst.specs.Bursts.{isRunning}
-use Rattle.line.specs.Rules.{cancelledBy}
+use Rattle.descriptor.specs.Cancelled.{cancelledBy}
 use Rattle.line.specs.Lines.{tariffChanged, burstChanged, answeredBy, describedBy, describeOf}
 use Rattle.line.specs.declared.Line.{Line}
 use Rattle.descriptor.proofs.Causes.{none-first, none-after}

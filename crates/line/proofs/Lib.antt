@@ -1,3 +1,2 @@
 -- The files of this folder.
 pub mod Described
-pub mod QuietTicks

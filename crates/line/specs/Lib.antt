@@ -1,3 +1,2 @@
--- The files of this folder, lowest first.
-pub mod Rules
+-- The files of this folder.
 pub mod Lines

@@ -1,19 +1,14 @@
 -- What each command makes of a line and answers: what the code computes.
-use mathlib.Core.Bool.{Bool, true, cond, not, _&&_, _||_}
-use Prim.Native.Nat.{ℕ, _+_, _-_, _%_, _^_, max}
-use lib.Dec.{leb}
-use Rattle.answers.specs.Fronts.{ifFront, ifBurst}
-use Rattle.answers.specs.declared.Front.{Front}
-use Rattle.tariff.specs.Tariffs.{roomOf, emOf, phasedOf, isEndless}
-use Rattle.steps.specs.Steps.{stepOf}
-use Rattle.tariff.specs.declared.Slot.{Slot}
-use Rattle.tariff.specs.declared.Slot.the-variants.{None as NoSlot, Empty, Pulse}
+use mathlib.Core.Bool.{Bool, cond}
+use Prim.Native.Nat.{ℕ, _+_, max}
+use Rattle.tariff.specs.Tariffs.{emOf, phasedOf, isEndless}
 use Rattle.tariff.specs.declared.Tariff.the-variants.{Idle}
 use Rattle.phase_lists.specs.Lists.{Lists, phasesOf}
 use Rattle.phase_lists.specs.Tables.{noPhases, tableWith}
 use Rattle.phase_lists.specs.declared.PhaseTable.{PhaseTable}
 use Rattle.descriptor.specs.Refusals.{ruling, soundConfiguration, descriptorCauses, periodCauses}
 use Rattle.descriptor.specs.Rulings.{descriptorRuling}
+use Rattle.descriptor.specs.Cancelled.{cancelledBy}
 use Rattle.descriptor.specs.declared.Ruling.{Ruling}
 use Rattle.descriptor.specs.declared.Ruling.the-variants.{Allowed, TurnedDown}
 use Rattle.descriptor.specs.declared.TariffPart.{TariffPart}
@@ -24,12 +19,11 @@ use Rattle.descriptor.specs.declared.BurstPart.the-variants.{None as NoBurst, K
 use Rattle.descriptor.specs.declared.Refusal.the-variants.{Configuration}
 use Rattle.descriptor.specs.declared.Hook.{Hook}
 use Rattle.descriptor.specs.declared.Hook.the-variants.{Keep, Stop}
-use Rattle.burst.specs.Bursts.{noBurst, startOf, isRunning, heldMore, agedOf, isDue, begunOf}
-use Rattle.burst.specs.declared.Burst.{Burst}
-use Rattle.state.specs.States.{zeroCounters, withTariff, withBurst, withCounters, stopped, withRate, countBy, isOn}
+use Rattle.burst.specs.Bursts.{noBurst, startOf, isRunning}
+use Rattle.state.specs.States.{zeroCounters, withTariff, withBurst, withCounters, stopped, withRate, originWait, isOn}
 use Rattle.state.specs.declared.State.{State}
 use Rattle.state.specs.declared.Moved.{Moved}
-use Rattle.line.specs.Rules.{cancelledBy, frontAt}
+use Rattle.ticking.specs.Moves.{movedBy}
 use Rattle.line.specs.declared.Line.{Line}
 use Rattle.line.specs.declared.Verdict.the-variants.{Accepted, Refused}
 use Rattle.line.specs.declared.Answered.{Answered}
@@ -66,17 +60,15 @@ makeOf D G clock =
 
 -- ---- descriptors and hook events
 
--- the ticks to the origin of a fresh tariff
-abbrev pub originWait : Line → ℕ
-originWait l = max 1 (l .spacing - l .state .since)
-
 abbrev pub withState : Line → State → Line
 withState l s =
     record { pulse = l .pulse; spacing = l .spacing; count = l .count; state = s; phases = l .phases }
 
 -- a fresh em zeroes the counters
 abbrev pub withEm : Line → ℕ → ℕ → Line
-withEm l C P = withState l (withTariff (l .state) (originWait l) (emOf C P) (zeroCounters (l .state .counters .rp)))
+withEm l C P =
+    let s = l .state in
+    withState l (withTariff s (originWait (l .spacing) s) (emOf C P) (zeroCounters (s .counters .rp)))
 
 -- the phases are in a table
 abbrev pub withTable : Line → PhaseTable → Line
@@ -85,7 +77,7 @@ withTable l t =
       pulse = l .pulse;
       spacing = l .spacing;
       count = t .count;
-      state = withTariff (l .state) (originWait l) (phasedOf (t .phases)) (l .state .counters);
+      state = withTariff (l .state) (originWait (l .spacing) (l .state)) (phasedOf (t .phases)) (l .state .counters);
       phases = t .phases;
     }
 
@@ -144,40 +136,8 @@ auditOf l = record { line = l; cpc = l .state .counters .cpc; pcslr = l .state .
 
 -- ---- one tick
 
--- after a tick with this front or none: the ticks since the last front, and the burst
-unfoldable pub sinceFront : Front → ℕ → ℕ
-sinceFront f since = ifFront f 0 since
-
-unfoldable pub burstAfter : Front → Burst → Burst
-burstAfter f b = ifBurst f (begunOf b) b
-
--- something happened: a slot, an empty one too, a front, a completion, or the end of a pulse
-unfoldable pub happens : Slot → Front → Bool → Bool → Bool
-happens s f complete ended = elim s [ NoSlot ↦ ifFront f true (complete || ended) | Empty ↦ true | Pulse ↦ true ]
-
--- the clock goes up; what is over ends; a slot due now, or else a burst pulse, begins; counters and report
-unfoldable pub moveOf : Line → Moved
-moveOf l =
-    let s = l .state in
-    let t = stepOf (l .pulse) (l .phases) (l .count) (s .tariff) (s .wait) in
-    let b = agedOf (l .pulse) (s .burst) in
-    let since = heldMore (l .spacing) (s .since) in
-    let may = isDue (b .burst) && (leb (l .spacing) since && roomOf (l .spacing) (t .tariff) (t .wait)) in
-    let f = frontAt (t .slot) may in
-    let n = countBy f (s .counters) in
-    record {
-      state =
-          record {
-            wait = t .wait;
-            clock = (s .clock + 1) % 2 ^ 32;
-            since = sinceFront f since;
-            tariff = t .tariff;
-            burst = burstAfter f (b .burst);
-            counters = n .counters;
-          };
-      tick = record { tariff = t .complete; burst = b .complete; front = f; report = n .report };
-      event = happens (t .slot) f (t .complete) (isOn (l .pulse) (s .since) && not (isOn (l .pulse) since));
-    }
+abbrev pub moveOf : Line → Moved
+moveOf l = movedBy (l .pulse) (l .spacing) (l .phases) (l .count) (l .state)
 
 unfoldable pub tickOf : Line → Ticked
 tickOf l = record { line = withState l (moveOf l .state); tick = moveOf l .tick }

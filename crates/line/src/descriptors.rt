@@ -5,8 +5,7 @@ ghost use Rattle.tariff.specs.Tariffs.{isEndless};
 ghost use Rattle.phase_lists.specs.Lists.{listsOf};
 ghost use Rattle.descriptor.specs.Rulings.{descriptorRuling};
 ghost use Rattle.burst.specs.Bursts.{isRunning};
-ghost use Rattle.line.specs.Rules.{cancelledBy};
-ghost use Rattle.line.specs.Lines.{originWait, withEm, withTable, tariffChanged, burstChanged, describedBy, describeOf};
+ghost use Rattle.line.specs.Lines.{withEm, withTable, tariffChanged, burstChanged, describedBy, describeOf};
 use super::Answered;
 use super::Line;
 use super::Verdict;
@@ -25,33 +24,7 @@ fn larger(a: u32, b: u32) -> u32
     if a < b { b } else { a }
 }
 
-// The pulses that a burst part cancels, of those owed.
-fn cancelled_by(part: BurstPart, owed: u32) -> u32
-    ensures { λ r. ⌜ r ≡ cancelledBy part owed ⌝ }
-{
-    match part {
-        BurstPart::None => owed,
-        BurstPart::Keep => 0,
-        BurstPart::Start {
-            pulses: _,
-            interval: _,
-        } => 0,
-    }
-}
-
 impl Line {
-    // The ticks to the origin of a fresh tariff.
-    fn origin_wait(self) -> u64
-        ensures { λ r. ⌜ r ≡ originWait self ⌝ }
-    {
-        let s = self.state;
-        if s.since < self.spacing {
-            (self.spacing - s.since) as u64
-        } else {
-            1
-        }
-    }
-
     // The line with a fresh em, which zeroes the counters.
     fn with_em(self, count: u32, period: u32) -> Line
         ensures { λ r. ⌜ r ≡ withEm self count period ⌝ }
@@ -63,7 +36,7 @@ impl Line {
             pcslr: 0,
             rp: old.rp,
         };
-        self.with_state(s.with_tariff(self.origin_wait(), Tariff::em(count, period), zero))
+        self.with_state(s.with_tariff(s.origin_wait(self.spacing), Tariff::em(count, period), zero))
     }
 
     // The line with a fresh phased tariff, whose phases are in the table.
@@ -74,7 +47,11 @@ impl Line {
         let phases = table.phases;
         Line {
             count: table.count,
-            state: s.with_tariff(self.origin_wait(), Tariff::phased(phases), s.counters),
+            state: s.with_tariff(
+                s.origin_wait(self.spacing),
+                Tariff::phased(phases),
+                s.counters,
+            ),
             phases,
             ..self
         }
@@ -134,7 +111,7 @@ impl Line {
             Ruling::Allowed => {
                 let s = self.state;
                 let old = s.burst;
-                let cancelled = cancelled_by(burst, old.owed);
+                let cancelled = descriptor::cancelled_by(burst, old.owed);
                 let changed = self.with_tariff_part(tariff, table);
                 Answered {
                     line: changed.with_burst_part(burst),

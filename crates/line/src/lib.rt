@@ -6,7 +6,7 @@ mod descriptors;
 mod hooks;
 mod making;
 mod reports;
-mod ticking;
+mod ticks;
 
 use answers::Tick;
 use descriptor::Refusal;

@@ -1,6 +1,6 @@
 -- What the code makes of the state of a line: its parts, its counters, and a tick at which nothing happens.
 use mathlib.Core.Bool.{Bool, true, false, cond, not, _&&_, _||_}
-use Prim.Native.Nat.{ℕ, _+_, _-_, _%_, _^_}
+use Prim.Native.Nat.{ℕ, _+_, _-_, _%_, _^_, max}
 use lib.Dec.{leb, ltb}
 use Rattle.answers.specs.Fronts.{ifFront, silent}
 use Rattle.answers.specs.declared.Front.{Front}
@@ -37,6 +37,10 @@ stopped s = withTariff s 0 Idle (s .counters)
 -- a rate: the next slot stays
 abbrev pub withRate : State → ℕ → State
 withRate s P = withTariff s (s .wait) (rateOf P (s .tariff)) (s .counters)
+
+-- the ticks to the origin of a fresh tariff
+abbrev pub originWait : ℕ → State → ℕ
+originWait S s = max 1 (S - s .since)
 
 -- ---- the counters
 

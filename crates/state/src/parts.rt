@@ -1,6 +1,6 @@
-// The state with another tariff, another burst or other counters.
+// The state with another tariff, another burst or other counters, and the wait of a fresh tariff.
 ghost use mathlib.Core.Path.{_≡_};
-ghost use Rattle.state.specs.States.{withTariff, withBurst, stopped, withRate};
+ghost use Rattle.state.specs.States.{withTariff, withBurst, stopped, withRate, originWait};
 use super::Counters;
 use super::State;
 use burst::Burst;
@@ -38,5 +38,16 @@ impl State {
     {
         let old = self.tariff;
         self.with_tariff(self.wait, old.rate(interval), self.counters)
+    }
+
+    // The ticks to the origin of a fresh tariff, on a line of this spacing.
+    pub fn origin_wait(self, spacing: u32) -> u64
+        ensures { λ r. ⌜ r ≡ originWait spacing self ⌝ }
+    {
+        if self.since < spacing {
+            (spacing - self.since) as u64
+        } else {
+            1
+        }
     }
 }

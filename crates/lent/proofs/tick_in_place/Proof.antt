@@ -49,7 +49,7 @@ use Rattle.state.specs.declared.Moved.{Moved}
 use Rattle.state.specs.declared.Quick.{Quick}
 use Rattle.line.specs.Lines.{withState, moveOf, tickOf}
 use Rattle.line.specs.declared.Line.{Line}
-use Rattle.line.proofs.QuietTicks.{quiet-moves}
+use Rattle.ticking.proofs.QuietTicks.{quiet-moves}
 use Rattle.lent.proofs.Answer.{Told, answers}
 use Rattle.line.proofs.Line as L
 use Rattle.line.proofs.Line.Laws as L′
@@ -129,7 +129,7 @@ off false _ = refl
 -- where `quick` says not busy, its move is the line's
 quiet-fast : (h : Line) → quickOf (h .pulse) (h .spacing) (h .state) .busy ≡ false → quickOf (h .pulse) (h .spacing) (h .state) .moved ≡ moveOf h
 unfolding quickOf
-quiet-fast h e = sym (quiet-moves h (not-false (quietOf (h .pulse) (h .spacing) (h .state)) e))
+quiet-fast h e = sym (quiet-moves (h .pulse) (h .spacing) (h .phases) (h .count) (h .state) (not-false (quietOf (h .pulse) (h .spacing) (h .state)) e))
 
 -- the line's move, with its state stored, is its tick
 ticked-is : (h : Line) (m : Moved) → m ≡ moveOf h → (m .tick ≡ tickOf h .tick) × (withState h (m .state) ≡ tickOf h .line)

@@ -12,7 +12,8 @@ use Rattle.descriptor.specs.declared.BurstPart.the-variants.{Keep, Start}
 use Rattle.descriptor.specs.declared.Hook.the-variants.{Stop}
 use Rattle.burst.specs.Bursts.{completesOf, agedOf}
 use Rattle.state.specs.States.{countOf, countBy}
-use Rattle.line.specs.Lines.{freshLine, makeOf, tariffChanged, burstChanged, describeOf, hookOf, sinceFront, burstAfter, moveOf, tickOf}
+use Rattle.ticking.specs.Moves.{sinceFront, burstAfter, movedBy}
+use Rattle.line.specs.Lines.{freshLine, makeOf, tariffChanged, burstChanged, describeOf, hookOf, tickOf}
 use Rattle.line.specs.declared.Answered.{Answered}
 use Rattle.line.specs.declared.Ticked.{Ticked}
 use Rattle.line_examples.specs.Tells.{isTariff, accepts, refuses}
@@ -31,11 +32,11 @@ module _ (made : Answered) (m : made ≡ makeOf 50 50 0) (call : Answered) (e : 
 
   module _ (first : Ticked) (t : first ≡ tickOf (call .line)) where
     first-front : isTariff (first .tick .front) ≡ true
-    unfolding makeOf freshLine describeOf ruling soundEm distanceOf tariffChanged burstChanged emOf tickOf moveOf stepOf dueOf completesOf agedOf countOf countBy sinceFront burstAfter
+    unfolding makeOf freshLine describeOf ruling soundEm distanceOf tariffChanged burstChanged emOf tickOf movedBy stepOf dueOf completesOf agedOf countOf countBy sinceFront burstAfter
     first-front = rw (t, e, m)
 
     hook-cancels : (down : Answered) → down ≡ hookOf (first .line) Stop → accepts 2 (down .verdict) ≡ true
-    unfolding makeOf freshLine describeOf ruling soundEm distanceOf tariffChanged burstChanged emOf tickOf moveOf stepOf dueOf completesOf agedOf countOf countBy sinceFront burstAfter hookOf
+    unfolding makeOf freshLine describeOf ruling soundEm distanceOf tariffChanged burstChanged emOf tickOf movedBy stepOf dueOf completesOf agedOf countOf countBy sinceFront burstAfter hookOf
     hook-cancels down h = rw (h, t, e, m)
 
 make-requires : tie.Need-make-requires

@@ -1,8 +1,8 @@
--- `ticking::has_event` meets its contract.
-use Rattle.line.specs.Lines.{happens}
+-- `has_event` meets its contract.
+use Rattle.ticking.specs.Moves.{happens}
 use borrow.Author.Needs.{needs}
-use Rattle.line.proofs.ticking.has_event.Statement.{statement}
-use Rattle.line.proofs.ticking.has_event.Tie as tie
+use Rattle.ticking.proofs.has_event.Statement.{statement}
+use Rattle.ticking.proofs.has_event.Tie as tie
 
 enum-told : tie.Need-enum-told
 enum-told c = search needs

@@ -1,17 +1,17 @@
--- `Line::moved` meets its contract.
-use Rattle.line.specs.Lines.{moveOf}
+-- `moved` meets its contract.
+use Rattle.ticking.specs.Moves.{movedBy}
 use borrow.Author.Needs.{needs}
-use Rattle.line.proofs.Line.moved.Statement.{statement}
-use Rattle.line.proofs.Line.moved.Tie as tie
+use Rattle.ticking.proofs.moved.Statement.{statement}
+use Rattle.ticking.proofs.moved.Tie as tie
+
+held-more-requires : tie.Need-held-more-requires
+held-more-requires c κs = search needs
 
 step-requires : tie.Need-step-requires
 step-requires c κs = search needs
 
 aged-requires : tie.Need-aged-requires
 aged-requires c κs = search needs
-
-held-more-requires : tie.Need-held-more-requires
-held-more-requires c κs = search needs
 
 room-requires : tie.Need-room-requires
 room-requires c κs = search needs
@@ -41,16 +41,16 @@ has-event-requires : tie.Need-has-event-requires
 has-event-requires c κs = search needs
 
 returns : tie.Need-returns
-unfolding moveOf
-returns c = rw (c .has-event .ensures, c .before .ends .ensures, c .before .before .burst-after .ensures, c .before .before .before .since-front .ensures, c .before .before .before .before .wrapping-add-u32 .ensures, c .before .before .before .before .before .before .counted-by .ensures, c .before .before .before .before .before .before .before .front-at .ensures, c .before .before .before .before .before .before .before .before .before .is-due .ensures, c .before .before .before .before .before .before .before .before .before .before .room .ensures, c .before .before .before .before .before .before .before .before .before .before .before .before .held-more .ensures, c .before .before .before .before .before .before .before .before .before .before .before .before .before .aged .ensures, c .before .before .before .before .before .before .before .before .before .before .before .before .before .before .step .ensures)
+unfolding movedBy
+returns c = rw (c .has-event .ensures, c .before .ends .ensures, c .before .before .burst-after .ensures, c .before .before .before .since-front .ensures, c .before .before .before .before .wrapping-add-u32 .ensures, c .before .before .before .before .before .before .counted-by .ensures, c .before .before .before .before .before .before .before .front-at .ensures, c .before .before .before .before .before .before .before .before .is-due .ensures, c .before .before .before .before .before .before .before .before .before .room .ensures, c .before .before .before .before .before .before .before .before .before .before .before .aged .ensures, c .before .before .before .before .before .before .before .before .before .before .before .before .step .ensures, c .before .before .before .before .before .before .before .before .before .before .before .before .before .held-more .ensures)
 
 pub moved-spec : {M : Type 1} → statement M
 moved-spec =
     tie.close
     (tie.spec
+    held-more-requires
     step-requires
     aged-requires
-    held-more-requires
     room-requires
     is-due-requires
     front-at-requires

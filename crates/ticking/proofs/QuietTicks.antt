@@ -17,8 +17,7 @@ use Rattle.burst.specs.Bursts.{isRunning, heldMore, olderOf, completesOf, agedO
 use Rattle.burst.specs.declared.Burst.{Burst}
 use Rattle.state.specs.States.{isOn, countBy, quietOf, waitedOf, quickOf}
 use Rattle.state.specs.declared.State.{State}
-use Rattle.line.specs.Lines.{sinceFront, burstAfter, happens, moveOf}
-use Rattle.line.specs.declared.Line.{Line}
+use Rattle.ticking.specs.Moves.{sinceFront, burstAfter, happens, movedBy}
 
 -- what the four parts of `quietOf` say
 record Quiet (D S : ℕ) (s : State) : Type 0 where
@@ -69,10 +68,9 @@ no-more true true false h = refl
 no-more true false c h = refl
 no-more false b c h = refl
 
-pub quiet-moves : (l : Line) → quietOf (l .pulse) (l .spacing) (l .state) ≡ true → moveOf l ≡ quickOf (l .pulse) (l .spacing) (l .state) .moved
-unfolding moveOf quickOf waitedOf countBy sinceFront burstAfter happens
-quiet-moves l h =
-    let s : State = l .state in
-    let q : Quiet (l .pulse) (l .spacing) s = quiet-parts (l .pulse) (l .spacing) s h in
-    let still = no-more (isDue (olderOf (s .burst))) (leb (l .spacing) (heldMore (l .spacing) (s .since))) (roomOf (l .spacing) (s .tariff) (s .wait - 1)) (q .rests) in
-    rw (step-waits (l .pulse) (l .phases) (l .count) (s .tariff) (s .wait) (q .waits), burst-ages (l .pulse) (s .burst) (q .runs), still, q .holds)
+pub quiet-moves : (D S : ℕ) (ps : List Phase) (n : ℕ) (s : State) → quietOf D S s ≡ true → movedBy D S ps n s ≡ quickOf D S s .moved
+unfolding movedBy quickOf waitedOf countBy sinceFront burstAfter happens
+quiet-moves D S ps n s h =
+    let q : Quiet D S s = quiet-parts D S s h in
+    let still = no-more (isDue (olderOf (s .burst))) (leb S (heldMore S (s .since))) (roomOf S (s .tariff) (s .wait - 1)) (q .rests) in
+    rw (step-waits D ps n (s .tariff) (s .wait) (q .waits), burst-ages D (s .burst) (q .runs), still, q .holds)

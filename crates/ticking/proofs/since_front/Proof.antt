@@ -1,8 +1,8 @@
--- `ticking::since_front` meets its contract.
-use Rattle.line.specs.Lines.{sinceFront}
+-- `since_front` meets its contract.
+use Rattle.ticking.specs.Moves.{sinceFront}
 use borrow.Author.Needs.{needs}
-use Rattle.line.proofs.ticking.since_front.Statement.{statement}
-use Rattle.line.proofs.ticking.since_front.Tie as tie
+use Rattle.ticking.proofs.since_front.Statement.{statement}
+use Rattle.ticking.proofs.since_front.Tie as tie
 
 enum-told : tie.Need-enum-told
 enum-told c = search needs

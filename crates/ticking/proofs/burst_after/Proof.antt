@@ -1,8 +1,8 @@
--- `ticking::burst_after` meets its contract.
-use Rattle.line.specs.Lines.{burstAfter}
+-- `burst_after` meets its contract.
+use Rattle.ticking.specs.Moves.{burstAfter}
 use borrow.Author.Needs.{needs}
-use Rattle.line.proofs.ticking.burst_after.Statement.{statement}
-use Rattle.line.proofs.ticking.burst_after.Tie as tie
+use Rattle.ticking.proofs.burst_after.Statement.{statement}
+use Rattle.ticking.proofs.burst_after.Tie as tie
 
 begun-requires : tie.Need-begun-requires
 begun-requires c κs = search needs

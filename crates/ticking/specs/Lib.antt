@@ -1,0 +1,3 @@
+-- The files of this folder, lowest first.
+pub mod Rules
+pub mod Moves
