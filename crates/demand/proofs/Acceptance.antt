@@ -3,11 +3,13 @@ use mathlib.Core.Path.{_≡_, refl}
 use mathlib.Core.Bool.{Bool}
 use mathlib.Core.List.{List, []}
 use Prim.Native.Nat.{ℕ, _≤_}
+use native.Mathlib.Omega.{arith}
 use Rattle.slots.specs.Slots.{runsEndless}
 use Rattle.descriptor.specs.Refusals.{refusalNumber, Cause, ruling}
 use Rattle.descriptor.specs.declared.Refusal.{Refusal}
 use Rattle.descriptor.specs.Cancelled.{cancelledBy}
 use Rattle.descriptor.proofs.Table.{Applies, Ascending, none-applies, refused-applies, refused-lowest, descriptor-ascends, period-ascends}
+use Rattle.grammar.specs.Meaning.{unreadable, senseless, descriptor}
 use Rattle.demand.specs.Names.{Ruling, Allowed, TurnedDown}
 use Rattle.demand.specs.Calls.{Call, describe, hook, period, noPeriod, audit, tick, Answer, accepted, refused, counters, ticked, Entry, asks, causes}
 use Rattle.demand.specs.History.{ticks, burstIn, owed, burstRuns, running}
@@ -16,7 +18,9 @@ use Rattle.demand.proofs.AnswerKinds.{ruledAnswer}
 
 -- the causes of every call stand in the order of their numbers
 pub causes-ascend : (S : ℕ) (e b : Bool) (c : Call) → Ascending 0 (causes S e b c)
-causes-ascend S e b (describe t ls p) = descriptor-ascends S e b t ls p
+causes-ascend S e b (describe unreadable) = (omega arith, tt)
+causes-ascend S e b (describe senseless) = (omega arith, tt)
+causes-ascend S e b (describe (descriptor t ls p)) = descriptor-ascends S e b t ls p
 causes-ascend S e b (hook event) = tt
 causes-ascend S e b (period rp) = period-ascends rp
 causes-ascend S e b noPeriod = tt
@@ -54,7 +58,7 @@ module _ (D S : ℕ) (h : List Entry) where
 
   pub judged : (c : Call) → Judged (causesAfter c) (answerAfter D S h c)
   unfolding answerAfter ruling
-  judged (describe t ls b) = command-judged (describe t ls b)
+  judged (describe d) = command-judged (describe d)
   judged (hook event) = command-judged (hook event)
   judged (period rp) = command-judged (period rp)
   judged noPeriod = command-judged noPeriod

@@ -5,6 +5,7 @@ use mathlib.Core.List.{List}
 use Prim.Native.Nat.{ℕ, _+_}
 use Rattle.descriptor.specs.Cancelled.{cancelledBy}
 use Rattle.descriptor.specs.Refusals.{refusalNumber}
+use Rattle.grammar.specs.Meaning.{unreadable, senseless, descriptor}
 use Rattle.demand.specs.Names.{KeepHook, Stop, Ruling, Allowed, TurnedDown}
 use Rattle.demand.specs.Calls.{Call, describe, hook, period, noPeriod, audit, tick, Answer, accepted, refused, counters, ticked, Entry, asks}
 use Rattle.demand.specs.History.{ticks, owed, sinceReport}
@@ -26,7 +27,9 @@ module _ (D S : ℕ) (h : List Entry) where
 
   kind-after : (c : Call) → Kind c (answerAfter D S h c)
   unfolding answerAfter
-  kind-after (describe t ls b) = to-command (rulingAfter D S h (describe t ls b)) refl refl
+  kind-after (describe unreadable) = to-command (rulingAfter D S h (describe unreadable)) refl refl
+  kind-after (describe senseless) = to-command (rulingAfter D S h (describe senseless)) refl refl
+  kind-after (describe (descriptor t ls b)) = to-command (rulingAfter D S h (describe (descriptor t ls b))) refl refl
   kind-after (hook KeepHook) = to-command (rulingAfter D S h (hook KeepHook)) refl refl
   kind-after (hook Stop) = to-command (rulingAfter D S h (hook Stop)) refl refl
   kind-after (period rp) = to-command (rulingAfter D S h (period rp)) refl refl

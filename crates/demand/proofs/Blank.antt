@@ -24,6 +24,7 @@ use Rattle.ticking.specs.Rules.{frontAt}
 use Rattle.ticking.specs.Moves.{sinceFront, movedBy}
 use Rattle.line.specs.Lines.{blankLine, makeOf, describeOf, hookOf, periodOf, noPeriodOf, auditOf, answeredBy, tariffChanged, burstChanged, withPeriod, moveOf, tickOf}
 use Rattle.line.specs.declared.Line.{Line}
+use Rattle.grammar.specs.Meaning.{unreadable, senseless, descriptor}
 use Rattle.demand.specs.Names.{Front, NoFront, TariffFront, BurstFront, Phase, TariffPart, NoTariff, KeepTariff, Rate, Em, Phased, BurstPart, NoBurst, KeepBurst, Start, KeepHook, Stop, Ruling, Allowed, TurnedDown}
 use Rattle.demand.specs.Calls.{Call, describe, hook, period, noPeriod, audit, tick, Answer, ticked, Entry, asks}
 use Rattle.demand.specs.History.{granted, frontOf, sum, ticks}
@@ -104,8 +105,8 @@ abbrev QuietPast : Past → Type 0
 QuietPast (past h l) = ticks h < 4294967295 → Quiet (ticks h) l × (fronts h ≡ 0)
 
 module _ (h : List Entry) (l : Line) (x : QuietPast (past h l)) where
-  described : (t : TariffPart) (ls : Lists) (p : BurstPart) (u : Ruling) → rulingOf l (describe t ls p) ≡ u →
-      QuietPast (noted h (describe t ls p) (answered (answeredBy u l (burstChanged p (tariffChanged t (tableWith (phasesOf ls)) l)) (cancelledBy p (l .state .burst .owed)))))
+  described : (t : TariffPart) (ls : Lists) (p : BurstPart) (u : Ruling) → rulingOf l (describe (descriptor t ls p)) ≡ u →
+      QuietPast (noted h (describe (descriptor t ls p)) (answered (answeredBy u l (burstChanged p (tariffChanged t (tableWith (phasesOf ls)) l)) (cancelledBy p (l .state .burst .owed)))))
   unfolding ticks sum
   described t ls p (TurnedDown r) e = λ early. (x early .0, omega (arith, x early .1))
   described t ls p Allowed e = λ early.
@@ -123,7 +124,9 @@ module _ (h : List Entry) (l : Line) (x : QuietPast (past h l)) where
 
   call-quiet : (c : Call) → QuietPast (noted h c (step l c))
   unfolding ticks sum step describeOf hookOf periodOf noPeriodOf auditOf tickOf
-  call-quiet (describe t ls p) = described t ls p (rulingOf l (describe t ls p)) refl
+  call-quiet (describe unreadable) = λ early. (x early .0, omega (arith, x early .1))
+  call-quiet (describe senseless) = λ early. (x early .0, omega (arith, x early .1))
+  call-quiet (describe (descriptor t ls p)) = described t ls p (rulingOf l (describe (descriptor t ls p))) refl
   call-quiet (hook KeepHook) = λ early. (x early .0, omega (arith, x early .1))
   call-quiet (hook Stop) = λ early. (record { spacing = x early .0 .spacing; tariff = refl; wait = refl; since = x early .0 .since }, omega (arith, x early .1))
   call-quiet (period n) = ruled n (rulingOf l (period n))

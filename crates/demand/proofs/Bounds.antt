@@ -37,6 +37,7 @@ use Rattle.ticking.specs.Rules.{frontAt}
 use Rattle.ticking.specs.Moves.{sinceFront, burstAfter, movedBy}
 use Rattle.line.specs.Lines.{freshLine, describeOf, hookOf, periodOf, noPeriodOf, auditOf, answeredBy, tariffChanged, burstChanged, withPeriod, tickOf}
 use Rattle.line.specs.declared.Line.{Line}
+use Rattle.grammar.specs.Meaning.{unreadable, senseless, descriptor}
 use Rattle.demand.specs.Calls.{Call, describe, hook, period, noPeriod, audit, tick, Entry}
 use Rattle.demand.specs.Machine.{rulingOf, Outcome, outcome, answered, step}
 use Rattle.descriptor.proofs.Causes.{none-first, none-after}
@@ -107,7 +108,7 @@ burst-bounded (Start n P) l h x =
 abbrev OutcomeBounded : Outcome → Type 0
 OutcomeBounded (outcome a l) = Bounded l
 
-described : (t : TariffPart) (ls : Lists) (p : BurstPart) (l : Line) (u : Ruling) → rulingOf l (describe t ls p) ≡ u → Bounded l →
+described : (t : TariffPart) (ls : Lists) (p : BurstPart) (l : Line) (u : Ruling) → rulingOf l (describe (descriptor t ls p)) ≡ u → Bounded l →
     OutcomeBounded (answered (answeredBy u l (burstChanged p (tariffChanged t (tableWith (phasesOf ls)) l)) (cancelledBy p (l .state .burst .owed))))
 described t ls p l (TurnedDown r) e x = x
 described t ls p l Allowed e x =
@@ -181,7 +182,9 @@ tick-bounded l x =
 -- ---- every call
 step-bounded : (l : Line) → Bounded l → (c : Call) → OutcomeBounded (step l c)
 unfolding step describeOf hookOf periodOf noPeriodOf auditOf
-step-bounded l x (describe t ls p) = described t ls p l (rulingOf l (describe t ls p)) refl x
+step-bounded l x (describe unreadable) = x
+step-bounded l x (describe senseless) = x
+step-bounded l x (describe (descriptor t ls p)) = described t ls p l (rulingOf l (describe (descriptor t ls p))) refl x
 step-bounded l x (hook Keep) = x
 step-bounded l x (hook Stop) = record { spacing = x .spacing; state = record { clock = x .state .clock; since = x .state .since; burst = no-burst; counters = x .state .counters } }
 step-bounded l x (period n) = ruled n l (rulingOf l (period n)) x

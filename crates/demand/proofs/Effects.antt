@@ -30,6 +30,7 @@ use Rattle.ticking.specs.Moves.{sinceFront, burstAfter, movedBy}
 use Rattle.line.specs.Lines.{describeOf, hookOf, periodOf, noPeriodOf, auditOf, tickOf, onOf, answeredBy, tariffChanged, burstChanged, withState, withPeriod}
 use Rattle.line.specs.declared.Line.{Line}
 use Rattle.line.specs.declared.Ticked.{Ticked}
+use Rattle.grammar.specs.Meaning.{unreadable, senseless, descriptor}
 use Rattle.demand.specs.Calls.{Call, describe, hook, period, noPeriod, audit, tick, ticked, Entry, asks}
 use Rattle.demand.specs.History.{granted, frontOf}
 use Rattle.demand.specs.Machine.{rulingOf, entryFor, Outcome, outcome, answered, step}
@@ -152,8 +153,8 @@ module _ (l : Line) (cfg : Config (l .pulse) (l .spacing)) (good : Good (l .spac
   abbrev pub EffectOf : Call → Outcome → Type 0
   EffectOf c (outcome a l′) = Effect S (l .state .since) (nextOf (l .state .tariff) (l .state .wait)) m g k (entryFor c a l′) l′
 
-  changed : (t : TariffPart) (ls : Lists) (b : BurstPart) (u : Ruling) → rulingOf l (describe t ls b) ≡ u →
-      EffectOf (describe t ls b) (answered (answeredBy u l (burstChanged b (tariffChanged t (tableWith (phasesOf ls)) l)) (cancelledBy b (l .state .burst .owed))))
+  changed : (t : TariffPart) (ls : Lists) (b : BurstPart) (u : Ruling) → rulingOf l (describe (descriptor t ls b)) ≡ u →
+      EffectOf (describe (descriptor t ls b)) (answered (answeredBy u l (burstChanged b (tariffChanged t (tableWith (phasesOf ls)) l)) (cancelledBy b (l .state .burst .owed))))
   unfolding tariffChanged burstChanged
   changed t ls b (TurnedDown r) e = stays refl refl refl refl owing
   changed t ls NoBurst Allowed e = cancels refl
@@ -171,7 +172,9 @@ module _ (l : Line) (cfg : Config (l .pulse) (l .spacing)) (good : Good (l .spac
 
   pub effect : (c : Call) → EffectOf c (step l c)
   unfolding step describeOf hookOf periodOf noPeriodOf auditOf
-  effect (describe t ls b) = changed t ls b (rulingOf l (describe t ls b)) refl
+  effect (describe unreadable) = stays refl refl refl refl owing
+  effect (describe senseless) = stays refl refl refl refl owing
+  effect (describe (descriptor t ls b)) = changed t ls b (rulingOf l (describe (descriptor t ls b))) refl
   effect (hook Keep) = stays refl refl refl refl owing
   effect (hook Stop) = cancels refl
   effect (period n) = ruled n (rulingOf l (period n))

@@ -20,6 +20,7 @@ use Rattle.burst.specs.Bursts.{noBurst}
 use Rattle.descriptor.specs.Cancelled.{cancelledBy}
 use Rattle.line.specs.Lines.{freshLine, describeOf, hookOf, periodOf, noPeriodOf, auditOf, tickOf, onOf, answeredBy, tariffChanged, burstChanged, withPeriod, idleLine}
 use Rattle.line.specs.declared.Line.{Line}
+use Rattle.grammar.specs.Meaning.{unreadable, senseless, descriptor}
 use Rattle.demand.specs.Calls.{Call, describe, hook, period, noPeriod, audit, tick, Answer, accepted, counters, ticked, Entry}
 use Rattle.demand.specs.History.{ticks, lastFront, burstIn, owed, burstRuns, running, frontsSinceEm, sinceReport, periodIn, pulseOn, never, idle}
 use Rattle.demand.specs.Answers.{rulingAfter, answerAfter}
@@ -60,13 +61,13 @@ module _ (D S clock : ℕ) (cfg : Config D S) where
   Right h c (outcome a l) = (a ≡ answerAfter D S h c) × Coupled D S clock (entryFor c a l ∷ h) l
 
   module _ (h : List Entry) {l : Line} (x : Coupled D S clock h l) where
-    describe-right : (t : TariffPart) (ls : Lists) (b : BurstPart) (u : Ruling) → rulingAfter D S h (describe t ls b) ≡ u →
-        Right h (describe t ls b) (answered (answeredBy u l (burstChanged b (tariffChanged t (tableWith (phasesOf ls)) l)) (cancelledBy b (l .state .burst .owed))))
+    describe-right : (t : TariffPart) (ls : Lists) (b : BurstPart) (u : Ruling) → rulingAfter D S h (describe (descriptor t ls b)) ≡ u →
+        Right h (describe (descriptor t ls b)) (answered (answeredBy u l (burstChanged b (tariffChanged t (tableWith (phasesOf ls)) l)) (cancelledBy b (l .state .burst .owed))))
     unfolding answerAfter ticks lastFront burstIn running frontsSinceEm sinceReport periodIn
     describe-right t ls b Allowed e =
         let both = taken S (runsEndless (running D S h)) (burstRuns D (burstIn h) (ticks h)) t ls b (running D S h) refl e in
-        (ap (λ (n : ℕ). accepted (cancelledBy b n)) (owed-agrees h x) ∙ ruled D S h (describe t ls b) e, with-total D S clock (zeroed-held t (frontsSinceEm h)) (burst-at D S clock cfg (burstRuns D (burstIn h) (ticks h)) b (both .1) (tariff-at D S clock cfg t (phasesOf ls) (both .0) x)))
-    describe-right t ls b (TurnedDown r) e = (ruled D S h (describe t ls b) e, x)
+        (ap (λ (n : ℕ). accepted (cancelledBy b n)) (owed-agrees h x) ∙ ruled D S h (describe (descriptor t ls b)) e, with-total D S clock (zeroed-held t (frontsSinceEm h)) (burst-at D S clock cfg (burstRuns D (burstIn h) (ticks h)) b (both .1) (tariff-at D S clock cfg t (phasesOf ls) (both .0) x)))
+    describe-right t ls b (TurnedDown r) e = (ruled D S h (describe (descriptor t ls b)) e, x)
 
     period-right : (n : ℕ) (u : Ruling) → rulingAfter D S h (period n) ≡ u → Right h (period n) (answered (answeredBy u l (withPeriod l n) 0))
     unfolding answerAfter ticks lastFront burstIn running frontsSinceEm sinceReport periodIn
@@ -75,7 +76,9 @@ module _ (D S clock : ℕ) (cfg : Config D S) where
 
     pub step-right : (c : Call) → Right h c (step l c)
     unfolding step describeOf hookOf periodOf noPeriodOf auditOf answerAfter ruling ticks lastFront burstIn running frontsSinceEm sinceReport periodIn tariffChanged burstChanged
-    step-right (describe t ls b) = rw (rulings-agree h x (describe t ls b)) (describe-right t ls b (rulingAfter D S h (describe t ls b)) refl)
+    step-right (describe unreadable) = (refl, x)
+    step-right (describe senseless) = (refl, x)
+    step-right (describe (descriptor t ls b)) = rw (rulings-agree h x (describe (descriptor t ls b))) (describe-right t ls b (rulingAfter D S h (describe (descriptor t ls b))) refl)
     step-right (hook Keep) = (refl, x)
     step-right (hook Stop) = (ap accepted (owed-agrees h x), burst-at D S clock cfg true NoBurst tt (tariff-at D S clock cfg NoTariff [] tt x))
     step-right (period n) = rw (rulings-agree h x (period n)) (period-right n (rulingAfter D S h (period n)) refl)

@@ -19,6 +19,7 @@ use Rattle.descriptor.specs.Cancelled.{cancelledBy}
 use Rattle.ticking.specs.Rules.{frontAt}
 use Rattle.line.specs.Lines.{onOf}
 use Rattle.line.specs.declared.Line.{Line}
+use Rattle.grammar.specs.Meaning.{unreadable, senseless, descriptor}
 use Rattle.demand.specs.Calls.{Call, describe, hook, period, noPeriod, audit, tick, Answer, accepted, refused, counters, ticked, Entry, asks}
 use Rattle.demand.specs.History.{granted, frontOf, sum, ticks, acceptedPulses, begun, cancelled, at, passed, Started, idle, started, oneBegun, burstBy, burstIn, owedOf, owed, burstRuns, burstReady, running}
 use Rattle.demand.specs.Answers.{rulingAfter, burstMayStart}
@@ -57,7 +58,9 @@ Balanced e now b = pulsesOf (granted e .burst) + owedOf b ≡ isBurstFront (fron
 module _ (D S : ℕ) (h : List Entry) (k : ℕ) (on : Bool) where
   -- a start is allowed only where nothing is owed
   start-owes : (c : Call) (n P : ℕ) → rulingAfter D S h c ≡ Allowed → asks c .burst ≡ Start n P → owed h ≡ 0
-  start-owes (describe t ls b) n P e f =
+  start-owes (describe unreadable) n P e f = absurd (let o : _≡_ {A = ℕ} 0 1 = cc in omega arith)
+  start-owes (describe senseless) n P e f = absurd (let o : _≡_ {A = ℕ} 0 1 = cc in omega arith)
+  start-owes (describe (descriptor t ls b)) n P e f =
       idle-owes D (burstIn h) (ticks h) (starts-idle S (runsEndless (running D S h)) (burstRuns D (burstIn h) (ticks h)) t ls n P (rw f at e))
   start-owes (hook Keep) n P e f = absurd (let o : _≡_ {A = ℕ} 0 1 = cc in omega arith)
   start-owes (hook Stop) n P e f = absurd (let o : _≡_ {A = ℕ} 0 1 = cc in omega arith)

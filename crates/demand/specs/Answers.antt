@@ -2,12 +2,8 @@
 use mathlib.Core.Bool.{Bool, false, _&&_}
 use mathlib.Core.List.{List}
 use Prim.Native.Nat.{ℕ, _+_, _-_, min}
-use Rattle.answers.specs.Fronts.{ifFront}
-use Rattle.slots.specs.Slots.{slotAt, quietFor, completesAt, runsEndless}
-use Rattle.descriptor.specs.Refusals.{ruling, refusalNumber}
-use Rattle.state.specs.Rules.{oneMore, reportDue}
-use Rattle.ticking.specs.Rules.{frontAt}
-use Rattle.demand.specs.Names.{Tick, Ruling, Allowed, TurnedDown, cancelledBy}
+use Rattle.demand.specs.Names.{Tick, Ruling, Allowed, TurnedDown, cancelledBy, ifFront, ruling, refusalNumber}
+use Rattle.demand.specs.Names.{oneMore, reportDue, frontAt, slotAt, quietFor, completesAt, runsEndless}
 use Rattle.demand.specs.Calls.{Call, describe, hook, period, noPeriod, audit, tick, asks, causes, Entry}
 use Rattle.demand.specs.Calls.{Answer, accepted, refused, counters, ticked}
 use Rattle.demand.specs.History.{ticks, lastFront, passed, burstIn, owed, burstCompletes, burstRuns, burstReady}
@@ -41,7 +37,7 @@ module _ (D S : ℕ) (h : List Entry) where
       [ Allowed ↦ accepted (cancelledBy (asks c .burst) (owed h)) | TurnedDown r ↦ refused (refusalNumber r) ]
 
   unfoldable pub answerAfter : Call → Answer
-  answerAfter (describe t ls b) = commandAnswer (describe t ls b)
+  answerAfter (describe d) = commandAnswer (describe d)
   answerAfter (hook event) = commandAnswer (hook event)
   answerAfter (period rp) = commandAnswer (period rp)
   answerAfter noPeriod = commandAnswer noPeriod

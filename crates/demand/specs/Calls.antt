@@ -1,15 +1,14 @@
 -- The calls on a line, the record of a call, and of each call what it asks and what it may be refused for.
 use mathlib.Core.Bool.{Bool, true, false}
-use mathlib.Core.List.{List, []}
+use mathlib.Core.List.{List, [], _∷_}
 use Prim.Native.Nat.{ℕ}
-use Rattle.phase_lists.specs.Lists.{Lists, phasesOf}
-use Rattle.descriptor.specs.Refusals.{Cause, descriptorCauses, periodCauses}
 use Rattle.demand.specs.Names.{Tick, Phase, TariffPart, NoTariff, KeepTariff, BurstPart, NoBurst, KeepBurst}
-use Rattle.demand.specs.Names.{Hook, KeepHook, Stop}
+use Rattle.demand.specs.Names.{Hook, KeepHook, Stop, Cause, cause, descriptorCauses, periodCauses}
+use Rattle.demand.specs.Names.{Reading, unreadable, senseless, descriptor, phasesOf, Grammar, Content}
 
--- a tick on a lent record is a tick too
+-- a descriptor is what it reads as; a tick on a lent record is a tick too
 pub data Call : Type 0 where
-  describe : (t : TariffPart) (ls : Lists) (b : BurstPart) → Call
+  describe : (d : Reading) → Call
   hook : (event : Hook) → Call
   period : (rp : ℕ) → Call
   noPeriod : Call
@@ -41,19 +40,26 @@ pub record Asked : Type 0 where
 abbrev pub asking : TariffPart → List Phase → BurstPart → (ℕ → ℕ) → Bool → Asked
 asking t ps b f isTick = record { tariff = t; phases = ps; burst = b; period = f; tick = isTick }
 
+abbrev pub nothing : Asked
+nothing = asking KeepTariff [] KeepBurst (λ rp. rp) false
+
 -- what a call asks; a report period of 0 is none
 abbrev pub asks : Call → Asked
-asks (describe t ls b) = asking t (phasesOf ls) b (λ rp. rp) false
-asks (hook KeepHook) = asking KeepTariff [] KeepBurst (λ rp. rp) false
+asks (describe unreadable) = nothing
+asks (describe senseless) = nothing
+asks (describe (descriptor t ls b)) = asking t (phasesOf ls) b (λ rp. rp) false
+asks (hook KeepHook) = nothing
 asks (hook Stop) = asking NoTariff [] NoBurst (λ rp. rp) false
 asks (period n) = asking KeepTariff [] KeepBurst (λ rp. n) false
 asks noPeriod = asking KeepTariff [] KeepBurst (λ rp. 0) false
-asks audit = asking KeepTariff [] KeepBurst (λ rp. rp) false
+asks audit = nothing
 asks tick = asking KeepTariff [] KeepBurst (λ rp. rp) true
 
 -- what it may be refused for, on a line of spacing S: whether an em with C = 0 runs, and whether a burst runs
 abbrev pub causes : ℕ → Bool → Bool → Call → List Cause
-causes S endlessRuns burstRuns (describe t ls b) = descriptorCauses S endlessRuns burstRuns t ls b
+causes S endlessRuns burstRuns (describe unreadable) = cause Grammar true ∷ []
+causes S endlessRuns burstRuns (describe senseless) = cause Content true ∷ []
+causes S endlessRuns burstRuns (describe (descriptor t ls b)) = descriptorCauses S endlessRuns burstRuns t ls b
 causes S endlessRuns burstRuns (hook event) = []
 causes S endlessRuns burstRuns (period rp) = periodCauses rp
 causes S endlessRuns burstRuns noPeriod = []

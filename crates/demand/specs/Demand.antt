@@ -5,10 +5,8 @@ use mathlib.Core.Logic.{_↔_}
 use mathlib.Core.List.{List, [], _∷_, _++_}
 use Prim.Native.Nat.{ℕ, _+_, _-_, _*_, _%_, _^_, min, max, _≤_}
 use lib.Dec.{ltb}
-use Rattle.answers.specs.Fronts.{isFront}
-use Rattle.slots.specs.Slots.{slotAt}
 use Rattle.demand.specs.Names.{TariffFront, BurstFront, Pulse, Stop, BurstPart, NoBurst, KeepBurst, Start}
-use Rattle.demand.specs.Names.{TariffPart, NoTariff, KeepTariff, Rate, Em, Phased}
+use Rattle.demand.specs.Names.{TariffPart, NoTariff, KeepTariff, Rate, Em, Phased, isFront, slotAt}
 use Rattle.demand.specs.Calls.{Call, hook, audit, Answer, accepted, counters, Entry}
 use Rattle.demand.specs.History.{granted, frontOf, ticks, acceptedPulses, begun, cancelled, owed, lastFront}
 use Rattle.demand.specs.History.{pulseOn, running, frontsSinceEm, sinceReport}

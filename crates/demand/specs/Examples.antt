@@ -7,7 +7,8 @@ use Rattle.pulse_map.specs.Examples.{Example, starred, Holds}
 use Rattle.slots.specs.Slots.{noSlot, countedSlot, phaseSlot}
 use Rattle.phase_lists.specs.Lists.{noLists}
 use Rattle.demand.specs.Names.{Phase, Slot, NoSlot, Empty, Pulse, Em, KeepBurst}
-use Rattle.demand.specs.Calls.{describe, Answer, accepted, refused}
+use Rattle.demand.specs.Calls.{Answer, accepted, refused}
+use Rattle.demand.specs.Machine.{parts}
 use Rattle.demand.specs.Answers.{answerAfter}
 
 -- the ticks below n at which a tariff has a slot, counted from its origin
@@ -36,7 +37,7 @@ abbrev pub StarredHolds : Starred → Type 0
 StarredHolds (ofMap e) = Holds e
 StarredHolds (ofEm C P slots) = slotsBelow (countedSlot C P) P ≡ slots
 StarredHolds (ofPhase p pulses) = pulsesBelow (phaseSlot p) (1000 * p .pd) ≡ pulses
-StarredHolds (ofAnswer D S C P a) = answerAfter D S [] (describe (Em C P) noLists KeepBurst) ≡ a
+StarredHolds (ofAnswer D S C P a) = answerAfter D S [] (parts (Em C P) noLists KeepBurst) ≡ a
 
 abbrev pub AllStarred : List Starred → Type 0
 AllStarred [] = Unit {0}

@@ -3,11 +3,9 @@ use mathlib.Core.Bool.{Bool, true, false, cond, not, _&&_, _||_}
 use mathlib.Core.List.{List, [], _∷_}
 use Prim.Native.Nat.{ℕ, _+_, _-_, max}
 use lib.Dec.{leb, ltb, eqb}
-use Rattle.answers.specs.Fronts.{silent, ifFront, ifBurst, isBurstFront}
 use Rattle.slots.specs.Slots.{Running, nothing, phased, emAt, rated, completesAt}
-use Rattle.state.specs.Rules.{oneMore}
-use Rattle.demand.specs.Names.{Front, Tick, Phase, TariffPart, NoTariff, KeepTariff, Rate, Em, Phased}
-use Rattle.demand.specs.Names.{BurstPart, NoBurst, KeepBurst, Start}
+use Rattle.demand.specs.Names.{Front, Tick, Phase, TariffPart, NoTariff, KeepTariff, Rate, Em, Phased, oneMore}
+use Rattle.demand.specs.Names.{BurstPart, NoBurst, KeepBurst, Start, silent, ifFront, ifBurst, isBurstFront}
 use Rattle.demand.specs.Calls.{audit, Answer, accepted, refused, counters, ticked, Entry, Asked, asks}
 
 -- what the call of an entry asked; a refused call gets no more than an audit

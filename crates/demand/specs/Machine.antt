@@ -4,16 +4,25 @@ use Prim.Native.Nat.{ℕ}
 use Rattle.tariff.specs.Tariffs.{isEndless}
 use Rattle.descriptor.specs.Refusals.{refusalNumber, ruling}
 use Rattle.burst.specs.Bursts.{isRunning}
-use Rattle.line.specs.Lines.{makeOf, describeOf, hookOf, periodOf, noPeriodOf, auditOf, tickOf, onOf}
+use Rattle.line.specs.Lines.{makeOf, readAnswer, hookOf, periodOf, noPeriodOf, auditOf, tickOf, onOf}
 use Rattle.line.specs.declared.Line.{Line}
 use Rattle.line.specs.declared.Verdict.{Verdict}
 use Rattle.line.specs.declared.Verdict.the-variants.{Accepted, Refused}
 use Rattle.line.specs.declared.Answered.{Answered}
 use Rattle.line.specs.declared.Audited.{Audited}
 use Rattle.line.specs.declared.Ticked.{Ticked}
-use Rattle.demand.specs.Names.{Ruling}
+use Rattle.phase_lists.specs.Lists.{Lists}
+use Rattle.grammar.specs.Meaning.{descriptor, readingOf}
+use Rattle.demand.specs.Names.{Ruling, TariffPart, BurstPart}
 use Rattle.demand.specs.Calls.{Call, describe, hook, period, noPeriod, audit, tick}
 use Rattle.demand.specs.Calls.{Answer, accepted, refused, counters, ticked, Entry, causes}
+
+-- a descriptor by its parts, and one as a text
+abbrev pub parts : TariffPart → Lists → BurstPart → Call
+parts t ls b = describe (descriptor t ls b)
+
+abbrev pub text : List ℕ → Call
+text bytes = describe (readingOf bytes)
 
 -- the number and the value of each case of a verdict
 abbrev pub verdictTold : Verdict → Answer
@@ -34,7 +43,7 @@ abbrev pub moved : Ticked → Outcome
 moved r = outcome (ticked (r .tick)) (r .line)
 
 unfoldable pub step : Line → Call → Outcome
-step l (describe t ls b) = answered (describeOf l t ls b)
+step l (describe d) = answered (readAnswer l d)
 step l (hook event) = answered (hookOf l event)
 step l (period rp) = answered (periodOf l rp)
 step l noPeriod = answered (noPeriodOf l)

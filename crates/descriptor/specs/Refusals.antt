@@ -16,6 +16,7 @@ use Rattle.descriptor.specs.declared.Ruling.{Ruling}
 use Rattle.descriptor.specs.declared.Ruling.the-variants.{Allowed, TurnedDown}
 use Rattle.descriptor.specs.declared.Refusal.the-variants.{Configuration, Period, NoEndlessEm, Interval}
 use Rattle.descriptor.specs.declared.Refusal.the-variants.{Lists as PhaseLists, Phase, Burst, BurstRuns}
+use Rattle.descriptor.specs.declared.Refusal.the-variants.{Grammar, Content}
 
 -- the paper's number of each cause
 abbrev pub refusalNumber : Refusal → ℕ
@@ -27,6 +28,8 @@ refusalNumber PhaseLists = 5
 refusalNumber Phase = 6
 refusalNumber Burst = 7
 refusalNumber BurstRuns = 8
+refusalNumber Grammar = 12
+refusalNumber Content = 13
 
 -- a cause to refuse a call, and whether it applies
 pub data Cause : Type 0 where

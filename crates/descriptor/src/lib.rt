@@ -40,6 +40,8 @@ pub enum Refusal {
     Phase,
     Burst,
     BurstRuns,
+    Grammar,
+    Content,
 }
 
 // What the table of refusals makes of a call.

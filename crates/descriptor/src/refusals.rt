@@ -25,6 +25,8 @@ impl Refusal {
             Refusal::Phase => 6,
             Refusal::Burst => 7,
             Refusal::BurstRuns => 8,
+            Refusal::Grammar => 12,
+            Refusal::Content => 13,
         }
     }
 }

@@ -1,6 +1,7 @@
 -- A descriptor by its table of phases: its ruling and its change of the tariff are those of its lists.
-use mathlib.Core.Path.{_≡_, refl}
+use mathlib.Core.Path.{_≡_, refl, sym, ap, _∙_}
 use mathlib.Core.Bool.{Bool, not}
+use mathlib.Core.List.{List}
 use Prim.Native.Nat.{ℕ}
 use borrow.Author.Tests.{not-false}
 use Rattle.tariff.specs.Tariffs.{isEndless}
@@ -15,8 +16,16 @@ use Rattle.descriptor.specs.declared.TariffPart.the-variants.{None as NoTariff,
 use Rattle.descriptor.specs.declared.BurstPart.{BurstPart}
 use Rattle.burst.specs.Bursts.{isRunning}
 use Rattle.descriptor.specs.Cancelled.{cancelledBy}
-use Rattle.line.specs.Lines.{tariffChanged, burstChanged, answeredBy, describedBy, describeOf}
+use Rattle.line.specs.Lines.{tariffChanged, burstChanged, answeredBy, describedBy, describeOf, readAnswer, describeTextOf}
+use Rattle.line.specs.declared.Answered.{Answered}
+use Rattle.line.specs.declared.Verdict.the-variants.{Refused}
 use Rattle.line.specs.declared.Line.{Line}
+use Rattle.grammar.specs.Meaning.{listsBy, Reading as Meant, unreadable, senseless, descriptor, readingOf}
+use Rattle.outcomes.specs.Outcomes.{keptOf}
+use Rattle.outcomes.specs.declared.Reading.{Reading}
+use Rattle.sg.specs.Readings.{readOf}
+use Rattle.sg.proofs.Agreement.{Agrees, agrees, firstNine}
+use Rattle.sg.proofs.Nine.{phases-nine}
 use Rattle.descriptor.proofs.Causes.{none-first, none-after}
 use Rattle.descriptor.proofs.Rulings.{descriptor-ruling-is}
 
@@ -44,3 +53,19 @@ describe-is l t ls p =
     rw (descriptor-ruling-is S e b t ls p)
     (same-answer (ruling (descriptorCauses S e b t ls p)) l (cancelledBy p (l .state .burst .owed))
     (λ h. rw (tariff-changed-is S e b t ls l (none-after (tariffCauses S e b t ls) (burstCauses S e b p) h .0))))
+
+-- what the code makes of a reading
+abbrev taken : Line → Ruling → Reading → Answered
+taken l (TurnedDown r) q = record { line = l; verdict = Refused r }
+taken l Allowed q = describedBy l (q .tariff) (tableFor (q .tariff) (listsBy (keptOf (q .counts) (q .values)))) (q .burst)
+
+read-is : (l : Line) (m : Meant) (q : Reading) → Agrees m q → taken l (q .ruling) q ≡ readAnswer l m
+read-is l unreadable q h = ap (λ (p : Reading). taken l (p .ruling) p) h
+read-is l senseless q h = ap (λ (p : Reading). taken l (p .ruling) p) h
+read-is l (descriptor t ls b) q h =
+    rw (h .0, h .1, h .2, h .3, phases-nine t ls) (describe-is l t ls b)
+
+-- a text's answer from what the reader keeps of it is its answer from its whole lists
+pub text-is : (l : Line) (text : List ℕ) → taken l (readOf text .ruling) (readOf text) ≡ describeTextOf l text
+unfolding describeTextOf
+text-is l text = read-is l (readingOf text) (readOf text) (agrees text)

@@ -1,5 +1,6 @@
 -- What each command makes of a line and answers: what the code computes.
 use mathlib.Core.Bool.{Bool, cond}
+use mathlib.Core.List.{List}
 use Prim.Native.Nat.{ℕ, _+_, max}
 use Rattle.tariff.specs.Tariffs.{emOf, phasedOf, isEndless}
 use Rattle.tariff.specs.declared.Tariff.the-variants.{Idle}
@@ -16,9 +17,10 @@ use Rattle.descriptor.specs.declared.TariffPart.the-variants.{None as NoTariff,
 use Rattle.descriptor.specs.declared.TariffPart.the-variants.{Rate, Em, Phased}
 use Rattle.descriptor.specs.declared.BurstPart.{BurstPart}
 use Rattle.descriptor.specs.declared.BurstPart.the-variants.{None as NoBurst, Keep as KeepBurst, Start}
-use Rattle.descriptor.specs.declared.Refusal.the-variants.{Configuration}
+use Rattle.descriptor.specs.declared.Refusal.the-variants.{Configuration, Grammar, Content}
 use Rattle.descriptor.specs.declared.Hook.{Hook}
 use Rattle.descriptor.specs.declared.Hook.the-variants.{Keep, Stop}
+use Rattle.grammar.specs.Meaning.{Reading, unreadable, senseless, descriptor, readingOf}
 use Rattle.burst.specs.Bursts.{noBurst, startOf, isRunning}
 use Rattle.state.specs.States.{zeroCounters, withTariff, withBurst, withCounters, stopped, withRate, originWait, isOn}
 use Rattle.state.specs.declared.State.{State}
@@ -112,6 +114,15 @@ describedBy l t table b =
     answeredBy (descriptorRuling (l .spacing) (isEndless (s .tariff)) (isRunning (s .burst)) t table b) l
     (burstChanged b (tariffChanged t table l))
     (cancelledBy b (s .burst .owed))
+
+-- as a text: refused where it does not read, and then where it makes no sense; else as the descriptor that it reads as
+abbrev pub readAnswer : Line → Reading → Answered
+readAnswer l unreadable = record { line = l; verdict = Refused Grammar }
+readAnswer l senseless = record { line = l; verdict = Refused Content }
+readAnswer l (descriptor t ls b) = describeOf l t ls b
+
+unfoldable pub describeTextOf : Line → List ℕ → Answered
+describeTextOf l text = readAnswer l (readingOf text)
 
 unfoldable pub hookOf : Line → Hook → Answered
 hookOf l Keep = record { line = l; verdict = Accepted 0 }

@@ -99,7 +99,12 @@ impl Line {
     }
 
     // A descriptor whose phases, if it is phased, are in the table.
-    fn described(self, tariff: TariffPart, table: PhaseTable, burst: BurstPart) -> Answered
+    pub(crate) fn described(
+        self,
+        tariff: TariffPart,
+        table: PhaseTable,
+        burst: BurstPart,
+    ) -> Answered
         ensures { λ r. ⌜ r ≡ describedBy self tariff table burst ⌝ }
     {
         let ruling = self.ruling(tariff, table, burst);

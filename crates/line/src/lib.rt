@@ -6,6 +6,7 @@ mod descriptors;
 mod hooks;
 mod making;
 mod reports;
+mod text;
 mod ticks;
 
 use answers::Tick;

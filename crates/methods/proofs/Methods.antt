@@ -19,7 +19,7 @@ use denote.Triple.Weaken.{weaken}
 use Rattle.line.proofs.Line as L
 use Rattle.lent.proofs.tick_in_place as lent
 use Rattle.descriptor.specs.Refusals.{soundConfiguration}
-use Rattle.line.specs.Lines.{makeOf}
+use Rattle.line.specs.Lines.{makeOf, describeTextOf}
 use Rattle.demand.specs.Calls.{accepted, refused}
 use Rattle.demand.specs.Machine.{verdictTold, step, history}
 use Rattle.methods.specs.Methods.{Of, ensuring, Meeting, Does, Methods}
@@ -36,11 +36,12 @@ module _ {M : Type 1} (𝓤 : URA M) (H : Heap 𝓤) (𝓜 : Model 𝓤 H) (𝓖
       record { does = weaken 𝓤 H (𝓖 .A) T (givenOf 𝓤 H 𝓜 𝓖) (ensuring 𝓤 H 𝓜 𝓖 𝓡 T c) (λ κs a _ r e. fact 𝓤 (claim κs a r e)) (λ κs a _ r ws. tells κs a r (atExit T κs a ws)) (𝓡 .run code) (routine-mono 𝓤 H 𝓜 𝓡 code) met }
 
   pub methods : Methods 𝓤 H 𝓜 𝓖 𝓡
-  unfolding step history
+  unfolding step history describeTextOf
   methods =
       record {
         make = told (λ κs a. L.make.clauses 𝓤 H (𝓖 .A) (𝓜 .mem) (𝓡 .run) κs a .ensures tt) (L.make.Met.met 𝓤 H 𝓜 𝓖 𝓡) (λ _ a _ _. fact-mono 𝓤 _ _ (λ e. (rw e (taken (a .0) (a .1 .0) (a .1 .1 .0)), λ cs. rw e)));
         describes = told (λ κs a. L.describe.clauses 𝓤 H (𝓖 .A) (𝓜 .mem) (𝓡 .run) κs a .ensures tt) (L.describe.Met.met 𝓤 H 𝓜 𝓖 𝓡) (λ _ _ _ _. fact-mono 𝓤 _ _ (λ e. rw e));
+        describesText = told (λ κs a. L.describe_text.clauses 𝓤 H (𝓖 .A) (𝓜 .mem) (𝓡 .run) κs a .ensures tt) (L.describe_text.Met.met 𝓤 H 𝓜 𝓖 𝓡) (λ _ _ _ _. fact-mono 𝓤 _ _ (λ e. rw e));
         hooks = told (λ κs a. L.hook.clauses 𝓤 H (𝓖 .A) (𝓜 .mem) (𝓡 .run) κs a .ensures tt) (L.hook.Met.met 𝓤 H 𝓜 𝓖 𝓡) (λ _ _ _ _. fact-mono 𝓤 _ _ (λ e. rw e));
         periods = told (λ κs a. L.set_period.clauses 𝓤 H (𝓖 .A) (𝓜 .mem) (𝓡 .run) κs a .ensures tt) (L.set_period.Met.met 𝓤 H 𝓜 𝓖 𝓡) (λ _ _ _ _. fact-mono 𝓤 _ _ (λ e. rw e));
         clears = told (λ κs a. L.clear_period.clauses 𝓤 H (𝓖 .A) (𝓜 .mem) (𝓡 .run) κs a .ensures tt) (L.clear_period.Met.met 𝓤 H 𝓜 𝓖 𝓡) (λ _ _ _ _. fact-mono 𝓤 _ _ (λ e. rw e));
