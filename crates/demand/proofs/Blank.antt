@@ -16,7 +16,7 @@ use Rattle.tariff.specs.Tariffs.{roomOf, rateOf, isEndless}
 use Rattle.steps.specs.Steps.{dueOf, stepOf}
 use Rattle.tariff.specs.declared.Tariff.the-variants.{Idle}
 use Rattle.phase_lists.specs.Lists.{Lists, phasesOf, soundLists}
-use Rattle.phase_lists.specs.Tables.{tableWith}
+use Rattle.phase_lists.specs.Tables.{eightOf}
 use Rattle.descriptor.specs.Refusals.{ruling, soundConfiguration, tariffCauses, burstCauses}
 use Rattle.burst.specs.Bursts.{isRunning, heldMore, agedOf, isDue}
 use Rattle.descriptor.specs.Cancelled.{cancelledBy}
@@ -64,7 +64,7 @@ phases-small S (p ∷ ps) some h =
 
 module _ (i : ℕ) where
   -- ---- commands
-  tariff-quiet : (e b : Bool) (t : TariffPart) (ls : Lists) (l : Line) → ruling (tariffCauses (l .spacing) e b t ls) ≡ Allowed → Quiet i l → Quiet i (tariffChanged t (tableWith (phasesOf ls)) l)
+  tariff-quiet : (e b : Bool) (t : TariffPart) (ls : Lists) (l : Line) → ruling (tariffCauses (l .spacing) e b t ls) ≡ Allowed → Quiet i l → Quiet i (tariffChanged t (length (phasesOf ls)) (eightOf (phasesOf ls)) l)
   unfolding tariffChanged rateOf
   tariff-quiet e b NoTariff ls l h x = record { spacing = x .spacing; tariff = refl; wait = refl; since = x .since }
   tariff-quiet e b KeepTariff ls l h x = x
@@ -106,14 +106,14 @@ QuietPast (past h l) = ticks h < 4294967295 → Quiet (ticks h) l × (fronts h �
 
 module _ (h : List Entry) (l : Line) (x : QuietPast (past h l)) where
   described : (t : TariffPart) (ls : Lists) (p : BurstPart) (u : Ruling) → rulingOf l (describe (descriptor t ls p)) ≡ u →
-      QuietPast (noted h (describe (descriptor t ls p)) (answered (answeredBy u l (burstChanged p (tariffChanged t (tableWith (phasesOf ls)) l)) (cancelledBy p (l .state .burst .owed)))))
+      QuietPast (noted h (describe (descriptor t ls p)) (answered (answeredBy u l (burstChanged p (tariffChanged t (length (phasesOf ls)) (eightOf (phasesOf ls)) l)) (cancelledBy p (l .state .burst .owed)))))
   unfolding ticks sum
   described t ls p (TurnedDown r) e = λ early. (x early .0, omega (arith, x early .1))
   described t ls p Allowed e = λ early.
       let endless : Bool = isEndless (l .state .tariff) in
       let running : Bool = isRunning (l .state .burst) in
       let free = none-after (tariffCauses (l .spacing) endless running t ls) (burstCauses (l .spacing) endless running p) e .0 in
-      (burst-quiet (ticks h) p (tariffChanged t (tableWith (phasesOf ls)) l) (tariff-quiet (ticks h) endless running t ls l free (x early .0)), omega (arith, x early .1))
+      (burst-quiet (ticks h) p (tariffChanged t (length (phasesOf ls)) (eightOf (phasesOf ls)) l) (tariff-quiet (ticks h) endless running t ls l free (x early .0)), omega (arith, x early .1))
 
   ruled : (n : ℕ) (u : Ruling) → QuietPast (noted h (period n) (answered (answeredBy u l (withPeriod l n) 0)))
   unfolding ticks sum

@@ -8,6 +8,7 @@ use native.Mathlib.Omega.{arith}
 use borrow.Author.Tests.{leb-true, not-false}
 use borrow.Table.Steps.{cases}
 use lib.Dec.{leb, eqb}
+use lib.ListN.{length}
 use Rattle.answers.specs.declared.Front.{Front}
 use Rattle.answers.specs.declared.Front.the-variants.{None, Tariff as TariffFront, Burst as BurstFront}
 use Rattle.tariff.specs.Ranges.{within}
@@ -16,7 +17,7 @@ use Rattle.steps.specs.Steps.{stepOf}
 use Rattle.tariff.specs.declared.Phase.{Phase}
 use Rattle.steps.specs.declared.Stepped.{Stepped}
 use Rattle.phase_lists.specs.Lists.{Lists, phasesOf}
-use Rattle.phase_lists.specs.Tables.{tableWith}
+use Rattle.phase_lists.specs.Tables.{eightOf}
 use Rattle.descriptor.specs.Refusals.{ruling, soundBurst, tariffCauses, burstCauses}
 use Rattle.descriptor.specs.declared.TariffPart.{TariffPart}
 use Rattle.descriptor.specs.declared.TariffPart.the-variants.{None as NoTariff, Keep as KeepTariff, Rate, Em, Phased}
@@ -67,7 +68,7 @@ no-burst : BurstBounded noBurst
 no-burst = omega arith
 
 -- ---- commands
-tariff-bounded : (t : TariffPart) (ps : List Phase) (l : Line) → Bounded l → Bounded (tariffChanged t (tableWith ps) l)
+tariff-bounded : (t : TariffPart) (ps : List Phase) (l : Line) → Bounded l → Bounded (tariffChanged t (length ps) (eightOf ps) l)
 unfolding tariffChanged
 tariff-bounded NoTariff ps l x = record { spacing = x .spacing; state = record { clock = x .state .clock; since = x .state .since; burst = x .state .burst; counters = x .state .counters } }
 tariff-bounded KeepTariff ps l x = x
@@ -109,13 +110,13 @@ abbrev OutcomeBounded : Outcome → Type 0
 OutcomeBounded (outcome a l) = Bounded l
 
 described : (t : TariffPart) (ls : Lists) (p : BurstPart) (l : Line) (u : Ruling) → rulingOf l (describe (descriptor t ls p)) ≡ u → Bounded l →
-    OutcomeBounded (answered (answeredBy u l (burstChanged p (tariffChanged t (tableWith (phasesOf ls)) l)) (cancelledBy p (l .state .burst .owed))))
+    OutcomeBounded (answered (answeredBy u l (burstChanged p (tariffChanged t (length (phasesOf ls)) (eightOf (phasesOf ls)) l)) (cancelledBy p (l .state .burst .owed))))
 described t ls p l (TurnedDown r) e x = x
 described t ls p l Allowed e x =
     let endless = isEndless (l .state .tariff) in
     let running = isRunning (l .state .burst) in
     let free = none-after (tariffCauses (l .spacing) endless running t ls) (burstCauses (l .spacing) endless running p) e in
-    burst-bounded p (tariffChanged t (tableWith (phasesOf ls)) l) (allows (l .spacing) endless running p (free .1)) (tariff-bounded t (phasesOf ls) l x)
+    burst-bounded p (tariffChanged t (length (phasesOf ls)) (eightOf (phasesOf ls)) l) (allows (l .spacing) endless running p (free .1)) (tariff-bounded t (phasesOf ls) l x)
 
 ruled : (n : ℕ) (l : Line) (u : Ruling) → Bounded l → OutcomeBounded (answered (answeredBy u l (withPeriod l n) 0))
 ruled n l Allowed x =

@@ -10,7 +10,7 @@ use Rattle.rules.specs.Rules.{soundEm, soundPhases}
 use Rattle.tariff.specs.Tariffs.{emOf, phasedOf, rateOf}
 use Rattle.tariff.specs.declared.Phase.{Phase}
 use Rattle.slots.specs.Slots.{Running, runsEndless}
-use Rattle.phase_lists.specs.Tables.{eightOf, tableWith}
+use Rattle.phase_lists.specs.Tables.{eightOf}
 use Rattle.descriptor.specs.declared.TariffPart.{TariffPart}
 use Rattle.descriptor.specs.declared.TariffPart.the-variants.{None as NoTariff, Keep as KeepTariff, Rate, Em, Phased}
 use Rattle.descriptor.specs.declared.BurstPart.{BurstPart}
@@ -45,7 +45,7 @@ module _ (D S clock : ℕ) (cfg : Config D S) where
   wait-fits w = record { some = omega arith; most = omega arith }
 
   pub tariff-at : {i : ℕ} {last : Last} {b : Started} {r : Running} {cpc pcslr rp : ℕ} {l : Line} (t : TariffPart) (ps : List Phase) → TariffTaken S t ps r → At D S clock i last b r cpc pcslr rp l →
-      At D S clock i last b (changedBy t ps (originAfter S last i) i r) (zeroedBy t cpc) (zeroedBy t pcslr) rp (tariffChanged t (tableWith ps) l)
+      At D S clock i last b (changedBy t ps (originAfter S last i) i r) (zeroedBy t cpc) (zeroedBy t pcslr) rp (tariffChanged t (length ps) (eightOf ps) l)
   unfolding tariffChanged
   tariff-at {i} NoTariff ps h (line-at {ps = qs} {n = n} e before a g u x) = line-at e before (agree-idle D qs n 0 i) tt u (λ z. absurd (z refl))
   tariff-at KeepTariff ps h (line-at e before a g u x) = line-at e before a g u x

@@ -5,6 +5,7 @@ use Prim.Native.Nat.{ℕ, suc, _+_, _-_, _*_, _%_, _^_, min, _≤_}
 use native.Mathlib.Omega.{arith}
 use borrow.Author.Tests.{leb-false, eqb-false, ne-eqb, lt-ltb}
 use lib.Dec.{leb, ltb, eqb}
+use lib.ListN.{length}
 use Rattle.answers.specs.declared.Front.{Front}
 use Rattle.answers.specs.declared.Front.the-variants.{None, Tariff as TariffFront, Burst as BurstFront}
 use Rattle.tariff.specs.Tariffs.{roomOf, isEndless}
@@ -13,7 +14,7 @@ use Rattle.tariff.specs.declared.Slot.{Slot}
 use Rattle.tariff.specs.declared.Slot.the-variants.{None as NoSlot, Empty, Pulse}
 use Rattle.steps.specs.declared.Stepped.{Stepped}
 use Rattle.phase_lists.specs.Lists.{Lists, phasesOf}
-use Rattle.phase_lists.specs.Tables.{tableWith}
+use Rattle.phase_lists.specs.Tables.{eightOf}
 use Rattle.descriptor.specs.declared.Ruling.{Ruling}
 use Rattle.descriptor.specs.declared.Ruling.the-variants.{Allowed, TurnedDown}
 use Rattle.descriptor.specs.declared.TariffPart.{TariffPart}
@@ -154,7 +155,7 @@ module _ (l : Line) (cfg : Config (l .pulse) (l .spacing)) (good : Good (l .spac
   EffectOf c (outcome a l′) = Effect S (l .state .since) (nextOf (l .state .tariff) (l .state .wait)) m g k (entryFor c a l′) l′
 
   changed : (t : TariffPart) (ls : Lists) (b : BurstPart) (u : Ruling) → rulingOf l (describe (descriptor t ls b)) ≡ u →
-      EffectOf (describe (descriptor t ls b)) (answered (answeredBy u l (burstChanged b (tariffChanged t (tableWith (phasesOf ls)) l)) (cancelledBy b (l .state .burst .owed))))
+      EffectOf (describe (descriptor t ls b)) (answered (answeredBy u l (burstChanged b (tariffChanged t (length (phasesOf ls)) (eightOf (phasesOf ls)) l)) (cancelledBy b (l .state .burst .owed))))
   unfolding tariffChanged burstChanged
   changed t ls b (TurnedDown r) e = stays refl refl refl refl owing
   changed t ls NoBurst Allowed e = cancels refl

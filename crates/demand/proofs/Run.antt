@@ -4,10 +4,11 @@ use mathlib.Core.Bool.{Bool, true}
 use mathlib.Core.List.{List, [], _∷_, _++_}
 use Prim.Native.Nat.{ℕ, _+_, _%_, _^_, _<_}
 use native.Mathlib.Omega.{arith}
+use lib.ListN.{length}
 use Rattle.tariff.specs.declared.Tariff.the-variants.{Idle}
 use Rattle.slots.specs.Slots.{nothing, runsEndless}
 use Rattle.phase_lists.specs.Lists.{Lists, phasesOf}
-use Rattle.phase_lists.specs.Tables.{tableWith, noPhases}
+use Rattle.phase_lists.specs.Tables.{eightOf, noPhases}
 use Rattle.descriptor.specs.Refusals.{ruling}
 use Rattle.descriptor.specs.declared.Ruling.{Ruling}
 use Rattle.descriptor.specs.declared.Ruling.the-variants.{Allowed, TurnedDown}
@@ -62,7 +63,7 @@ module _ (D S clock : ℕ) (cfg : Config D S) where
 
   module _ (h : List Entry) {l : Line} (x : Coupled D S clock h l) where
     describe-right : (t : TariffPart) (ls : Lists) (b : BurstPart) (u : Ruling) → rulingAfter D S h (describe (descriptor t ls b)) ≡ u →
-        Right h (describe (descriptor t ls b)) (answered (answeredBy u l (burstChanged b (tariffChanged t (tableWith (phasesOf ls)) l)) (cancelledBy b (l .state .burst .owed))))
+        Right h (describe (descriptor t ls b)) (answered (answeredBy u l (burstChanged b (tariffChanged t (length (phasesOf ls)) (eightOf (phasesOf ls)) l)) (cancelledBy b (l .state .burst .owed))))
     unfolding answerAfter ticks lastFront burstIn running frontsSinceEm sinceReport periodIn
     describe-right t ls b Allowed e =
         let both = taken S (runsEndless (running D S h)) (burstRuns D (burstIn h) (ticks h)) t ls b (running D S h) refl e in

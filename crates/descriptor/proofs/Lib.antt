@@ -1,4 +1,5 @@
 -- The files of this folder, lowest first.
 pub mod Causes
 pub mod Table
+pub mod OnePass
 pub mod Rulings

@@ -1,8 +1,9 @@
--- The table of refusals as the code goes through it, with the phase lists read into a table.
+-- The table of refusals as the code goes through it, with the phase lists read and met in one pass.
 use mathlib.Core.Bool.{Bool, cond}
 use Prim.Native.Nat.{ℕ}
-use lib.ListN.{take}
-use Rattle.rules.specs.Rules.{soundEm, soundPhases}
+use Rattle.tariff.specs.Ranges.{within}
+use Rattle.rules.specs.Rules.{soundEm}
+use Rattle.rules.specs.declared.Carry.{Carry}
 use Rattle.phase_lists.specs.Lists.{Lists}
 use Rattle.phase_lists.specs.Tables.{noTable, tableOf}
 use Rattle.phase_lists.specs.declared.PhaseTable.{PhaseTable}
@@ -18,15 +19,20 @@ use Rattle.descriptor.specs.declared.Ruling.{Ruling}
 use Rattle.descriptor.specs.declared.Ruling.the-variants.{Allowed, TurnedDown}
 
 -- the lists are looked at only where the tariff part is phased
-abbrev pub tableFor : TariffPart → Lists → PhaseTable
-tableFor NoTariff ls = noTable
-tableFor KeepTariff ls = noTable
-tableFor (Rate P) ls = noTable
-tableFor (Em C P) ls = noTable
-tableFor Phased ls = tableOf ls
+abbrev pub tableFor : ℕ → TariffPart → Lists → PhaseTable
+tableFor S NoTariff ls = noTable
+tableFor S KeepTariff ls = noTable
+tableFor S (Rate P) ls = noTable
+tableFor S (Em C P) ls = noTable
+tableFor S Phased ls = tableOf S ls
 
 abbrev pub ruledBy : Ruling → Bool → Ruling → Ruling
 ruledBy why sound rest = cond sound rest why
+
+-- by what the phases leave to carry: their number is judged before the phases
+abbrev pub carriedRuling : Carry → Ruling
+carriedRuling c =
+    ruledBy (TurnedDown PhaseLists) (within 1 8 (c .count)) (ruledBy (TurnedDown BadPhase) (c .sound) Allowed)
 
 -- on a line of spacing S, where e says whether an em with C = 0 runs
 unfoldable pub tariffRuling : ℕ → Bool → TariffPart → PhaseTable → Ruling
@@ -34,9 +40,7 @@ tariffRuling S e NoTariff t = Allowed
 tariffRuling S e KeepTariff t = Allowed
 tariffRuling S e (Rate P) t = ruledBy (TurnedDown NoEndlessEm) e (ruledBy (TurnedDown Interval) (soundEm S 0 P) Allowed)
 tariffRuling S e (Em C P) t = ruledBy (TurnedDown Interval) (soundEm S C P) Allowed
-tariffRuling S e Phased t =
-    ruledBy (TurnedDown PhaseLists) (t .sound)
-    (ruledBy (TurnedDown BadPhase) (soundPhases S (take (t .count) (t .phases))) Allowed)
+tariffRuling S e Phased t = carriedRuling (t .carry)
 
 -- where running says whether a burst runs
 unfoldable pub burstRuling : Bool → BurstPart → Ruling

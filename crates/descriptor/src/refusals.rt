@@ -3,13 +3,14 @@ ghost use mathlib.Core.Path.{_≡_};
 ghost use mathlib.Core.Bool.{false};
 ghost use Rattle.phase_lists.specs.Tables.{noTable};
 ghost use Rattle.descriptor.specs.Refusals.{refusalNumber, soundConfiguration, soundBurst};
-ghost use Rattle.descriptor.specs.Rulings.{tariffRuling, burstRuling, descriptorRuling};
-ghost use Rattle.descriptor.specs.declared.TariffPart.the-variants.{Rate, Em, Phased};
+ghost use Rattle.descriptor.specs.Rulings.{carriedRuling, tariffRuling, burstRuling, descriptorRuling};
+ghost use Rattle.descriptor.specs.declared.TariffPart.the-variants.{Rate, Em};
 use super::BurstPart;
 use super::Refusal;
 use super::Ruling;
 use super::TariffPart;
 use phase_lists::PhaseTable;
+use rules::Carry;
 
 impl Refusal {
     // The paper's number.
@@ -68,15 +69,16 @@ fn em_ruling(spacing: u32, count: u32, period: u32) -> Ruling
     Ruling::Allowed
 }
 
-// The lists are judged before the phases read from them.
-fn phased_ruling(spacing: u32, table: PhaseTable) -> Ruling
-    ensures { λ r. ⌜ r ≡ tariffRuling spacing false Phased table ⌝ }
+// The number of phases is judged before the phases.
+fn phased_ruling(carry: Carry) -> Ruling
+    ensures { λ r. ⌜ r ≡ carriedRuling carry ⌝ }
 {
-    let phases = table.phases;
-    if !table.sound {
+    let few = (1 <= carry.count) & (carry.count <= 8);
+    let sound = carry.sound;
+    if !few {
         return Ruling::TurnedDown(Refusal::Lists);
     }
-    if !rules::sound_phases(spacing, phases, table.count) {
+    if !sound {
         return Ruling::TurnedDown(Refusal::Phase);
     }
     Ruling::Allowed
@@ -91,7 +93,7 @@ fn tariff_ruling(spacing: u32, endless: bool, part: TariffPart, table: PhaseTabl
         TariffPart::Keep => Ruling::Allowed,
         TariffPart::Rate { interval } => rate_ruling(spacing, endless, interval),
         TariffPart::Em { count, period } => em_ruling(spacing, count, period),
-        TariffPart::Phased => phased_ruling(spacing, table),
+        TariffPart::Phased => phased_ruling(table.carry),
     }
 }
 

@@ -5,8 +5,9 @@ ghost use Rattle.descriptor.specs.Rulings.{tableFor};
 use super::TariffPart;
 use phase_lists::PhaseTable;
 
-// The lists are looked at only where the tariff part is phased.
+// The lists are looked at only where the tariff part is phased; their phases are judged for a line of this spacing.
 pub fn phases_for(
+    spacing: u32,
     part: TariffPart,
     pri: &[u32],
     pcx: &[u32],
@@ -16,7 +17,7 @@ pub fn phases_for(
     ci: &[u32],
     pd: &[u32],
 ) -> PhaseTable
-    ensures { λ r. ⌜ r ≡ tableFor part (listsOf (now (pri .entry)) (now (pcx .entry)) (now (repx .entry)) (now (pcn .entry)) (now (repn .entry)) (now (ci .entry)) (now (pd .entry))) ⌝ }
+    ensures { λ r. ⌜ r ≡ tableFor spacing part (listsOf (now (pri .entry)) (now (pcx .entry)) (now (repx .entry)) (now (pcn .entry)) (now (repn .entry)) (now (ci .entry)) (now (pd .entry))) ⌝ }
 {
     match part {
         TariffPart::None => phase_lists::no_table(),
@@ -26,6 +27,6 @@ pub fn phases_for(
             count: _,
             period: _,
         } => phase_lists::no_table(),
-        TariffPart::Phased => phase_lists::read_phases(pri, pcx, repx, pcn, repn, ci, pd),
+        TariffPart::Phased => phase_lists::read_phases(spacing, pri, pcx, repx, pcn, repn, ci, pd),
     }
 }

@@ -2,10 +2,12 @@
 use mathlib.Core.Bool.{Bool, cond}
 use mathlib.Core.List.{List}
 use Prim.Native.Nat.{ℕ, _+_, max}
+use lib.ListN.{length}
 use Rattle.tariff.specs.Tariffs.{emOf, phasedOf, isEndless}
+use Rattle.tariff.specs.declared.Phase.{Phase}
 use Rattle.tariff.specs.declared.Tariff.the-variants.{Idle}
 use Rattle.phase_lists.specs.Lists.{Lists, phasesOf}
-use Rattle.phase_lists.specs.Tables.{noPhases, tableWith}
+use Rattle.phase_lists.specs.Tables.{noPhases, eightOf}
 use Rattle.phase_lists.specs.declared.PhaseTable.{PhaseTable}
 use Rattle.descriptor.specs.Refusals.{ruling, soundConfiguration, descriptorCauses, periodCauses}
 use Rattle.descriptor.specs.Rulings.{descriptorRuling}
@@ -72,23 +74,23 @@ withEm l C P =
     let s = l .state in
     withState l (withTariff s (originWait (l .spacing) s) (emOf C P) (zeroCounters (s .counters .rp)))
 
--- the phases are in a table
-abbrev pub withTable : Line → PhaseTable → Line
-withTable l t =
+-- n phases stand at the front of the eight
+abbrev pub withPhases : Line → ℕ → List Phase → Line
+withPhases l n eight =
     record {
       pulse = l .pulse;
       spacing = l .spacing;
-      count = t .count;
-      state = withTariff (l .state) (originWait (l .spacing) (l .state)) (phasedOf (t .phases)) (l .state .counters);
-      phases = t .phases;
+      count = n;
+      state = withTariff (l .state) (originWait (l .spacing) (l .state)) (phasedOf eight) (l .state .counters);
+      phases = eight;
     }
 
-unfoldable pub tariffChanged : TariffPart → PhaseTable → Line → Line
-tariffChanged NoTariff t l = withState l (stopped (l .state))
-tariffChanged KeepTariff t l = l
-tariffChanged (Rate P) t l = withState l (withRate (l .state) P)
-tariffChanged (Em C P) t l = withEm l C P
-tariffChanged Phased t l = withTable l t
+unfoldable pub tariffChanged : TariffPart → ℕ → List Phase → Line → Line
+tariffChanged NoTariff n eight l = withState l (stopped (l .state))
+tariffChanged KeepTariff n eight l = l
+tariffChanged (Rate P) n eight l = withState l (withRate (l .state) P)
+tariffChanged (Em C P) n eight l = withEm l C P
+tariffChanged Phased n eight l = withPhases l n eight
 
 unfoldable pub burstChanged : BurstPart → Line → Line
 burstChanged NoBurst l = withState l (withBurst (l .state) noBurst)
@@ -104,7 +106,7 @@ unfoldable pub describeOf : Line → TariffPart → Lists → BurstPart → Answ
 describeOf l t ls b =
     let s = l .state in
     answeredBy (ruling (descriptorCauses (l .spacing) (isEndless (s .tariff)) (isRunning (s .burst)) t ls b)) l
-    (burstChanged b (tariffChanged t (tableWith (phasesOf ls)) l))
+    (burstChanged b (tariffChanged t (length (phasesOf ls)) (eightOf (phasesOf ls)) l))
     (cancelledBy b (s .burst .owed))
 
 -- the same with the phases in a table, as the code has them
@@ -112,7 +114,7 @@ abbrev pub describedBy : Line → TariffPart → PhaseTable → BurstPart → An
 describedBy l t table b =
     let s = l .state in
     answeredBy (descriptorRuling (l .spacing) (isEndless (s .tariff)) (isRunning (s .burst)) t table b) l
-    (burstChanged b (tariffChanged t table l))
+    (burstChanged b (tariffChanged t (table .carry .count) (table .phases) l))
     (cancelledBy b (s .burst .owed))
 
 -- as a text: refused where it does not read, and then where it makes no sense; else as the descriptor that it reads as

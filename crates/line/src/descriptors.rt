@@ -5,7 +5,7 @@ ghost use Rattle.tariff.specs.Tariffs.{isEndless};
 ghost use Rattle.phase_lists.specs.Lists.{listsOf};
 ghost use Rattle.descriptor.specs.Rulings.{descriptorRuling};
 ghost use Rattle.burst.specs.Bursts.{isRunning};
-ghost use Rattle.line.specs.Lines.{withEm, withTable, tariffChanged, burstChanged, describedBy, describeOf};
+ghost use Rattle.line.specs.Lines.{withEm, withPhases, tariffChanged, burstChanged, describedBy, describeOf};
 use super::Answered;
 use super::Line;
 use super::Verdict;
@@ -41,12 +41,13 @@ impl Line {
 
     // The line with a fresh phased tariff, whose phases are in the table.
     fn with_table(self, table: PhaseTable) -> Line
-        ensures { λ r. ⌜ r ≡ withTable self table ⌝ }
+        ensures { λ r. ⌜ r ≡ withPhases self (table .carry .count) (table .phases) ⌝ }
     {
         let s = self.state;
+        let carry = table.carry;
         let phases = table.phases;
         Line {
-            count: table.count,
+            count: carry.count,
             state: s.with_tariff(
                 s.origin_wait(self.spacing),
                 Tariff::phased(phases),
@@ -59,7 +60,7 @@ impl Line {
 
     // The line with a tariff part taken, whose phases, if it is phased, are in the table.
     fn with_tariff_part(self, part: TariffPart, table: PhaseTable) -> Line
-        ensures { λ r. ⌜ r ≡ tariffChanged part table self ⌝ }
+        ensures { λ r. ⌜ r ≡ tariffChanged part (table .carry .count) (table .phases) self ⌝ }
     {
         let s = self.state;
         match part {
@@ -141,7 +142,7 @@ impl Line {
     ) -> Answered
         ensures { λ r. ⌜ r ≡ describeOf self tariff (listsOf (now (pri .entry)) (now (pcx .entry)) (now (repx .entry)) (now (pcn .entry)) (now (repn .entry)) (now (ci .entry)) (now (pd .entry))) burst ⌝ }
     {
-        let table = descriptor::phases_for(tariff, pri, pcx, repx, pcn, repn, ci, pd);
+        let table = descriptor::phases_for(self.spacing, tariff, pri, pcx, repx, pcn, repn, ci, pd);
         self.described(tariff, table, burst)
     }
 }

@@ -21,7 +21,7 @@ impl Line {
             Ruling::Allowed => {
                 let tariff = reading.tariff;
                 let burst = reading.burst;
-                let phases = outcomes::phases_of(reading);
+                let phases = outcomes::phases_of(self.spacing, reading);
                 self.described(tariff, phases, burst)
             }
         }

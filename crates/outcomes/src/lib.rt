@@ -143,15 +143,16 @@ fn kept(values: &[u32], from: usize, count: usize) -> &[u32]
     &values[from..from + n]
 }
 
-// The phases of a descriptor, read from what is kept of its lists.
-pub fn phases_of(reading: Reading) -> PhaseTable
-    ensures { λ r. ⌜ r ≡ tableFor (reading .tariff) (listsBy (keptOf (reading .counts) (reading .values))) ⌝ }
+// The phases of a descriptor, read from what is kept of its lists and judged for a line of this spacing.
+pub fn phases_of(spacing: u32, reading: Reading) -> PhaseTable
+    ensures { λ r. ⌜ r ≡ tableFor spacing (reading .tariff) (listsBy (keptOf (reading .counts) (reading .values))) ⌝ }
 {
     let tariff = reading.tariff;
     let counts = reading.counts;
     let held = reading.values;
     let values: &[u32] = &held;
     descriptor::phases_for(
+        spacing,
         tariff,
         kept(values, 90, counts[10]),
         kept(values, 99, counts[11]),

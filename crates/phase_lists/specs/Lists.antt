@@ -3,7 +3,7 @@ use mathlib.Core.Bool.{Bool, _&&_}
 use mathlib.Core.List.{List, [], _∷_, _++_}
 use Prim.Native.Nat.{ℕ, zero, suc}
 use lib.Dec.{eqb}
-use lib.ListN.{length, getD}
+use lib.ListN.{length, getD, take}
 use Rattle.tariff.specs.Ranges.{within}
 use Rattle.tariff.specs.declared.Phase.{Phase}
 
@@ -45,10 +45,19 @@ listsOf pri pcx repx pcn repn ci pd =
 abbrev pub noLists : Lists
 noLists = record { pri = []; pcx = []; repx = []; pcn = []; repn = []; ci = []; pd = [] }
 
+-- the other six lists are as long as the first
+abbrev pub oneLength : Lists → Bool
+oneLength ls =
+    eqb (length (ls .pcx)) (length (ls .pri)) && (eqb (length (ls .repx)) (length (ls .pri))
+    && (eqb (length (ls .pcn)) (length (ls .pri)) && (eqb (length (ls .repn)) (length (ls .pri))
+    && (eqb (length (ls .ci)) (length (ls .pri)) && eqb (length (ls .pd)) (length (ls .pri))))))
+
 -- seven lists of one length, 1 to 8
 unfoldable pub soundLists : Lists → Bool
-soundLists ls =
-    within 1 8 (length (ls .pri))
-    && (eqb (length (ls .pcx)) (length (ls .pri)) && (eqb (length (ls .repx)) (length (ls .pri))
-    && (eqb (length (ls .pcn)) (length (ls .pri)) && (eqb (length (ls .repn)) (length (ls .pri))
-    && (eqb (length (ls .ci)) (length (ls .pri)) && eqb (length (ls .pd)) (length (ls .pri)))))))
+soundLists ls = within 1 8 (length (ls .pri)) && oneLength ls
+
+-- the first k places of each list
+abbrev pub firstPlaces : Lists → ℕ → Lists
+firstPlaces ls k =
+    listsOf (take k (ls .pri)) (take k (ls .pcx)) (take k (ls .repx)) (take k (ls .pcn)) (take k (ls .repn))
+    (take k (ls .ci)) (take k (ls .pd))

@@ -1,11 +1,12 @@
--- The phases of a descriptor, read once into a table of eight.
-use mathlib.Core.Bool.{true, false, cond}
+-- The phases of a descriptor, read and met in one pass.
+use mathlib.Core.Bool.{cond}
 use mathlib.Core.List.{List, _++_}
-use Prim.Native.Nat.{_-_}
+use Prim.Native.Nat.{ℕ, _-_, min}
 use lib.ListN.{length, replicate}
 use Rattle.tariff.specs.Tariffs.{noPhase}
 use Rattle.tariff.specs.declared.Phase.{Phase}
-use Rattle.phase_lists.specs.Lists.{Lists, phasesOf, soundLists}
+use Rattle.rules.specs.Carried.{noneMet, carried}
+use Rattle.phase_lists.specs.Lists.{Lists, firstPhases, oneLength}
 use Rattle.phase_lists.specs.declared.PhaseTable.{PhaseTable}
 
 abbrev pub noPhases : List Phase
@@ -15,12 +16,17 @@ noPhases = replicate 8 noPhase
 abbrev pub eightOf : List Phase → List Phase
 eightOf ps = ps ++ replicate (8 - length ps) noPhase
 
-abbrev pub tableWith : List Phase → PhaseTable
-tableWith ps = record { sound = true; phases = eightOf ps; count = length ps }
-
 abbrev pub noTable : PhaseTable
-noTable = record { sound = false; phases = noPhases; count = 0 }
+noTable = record { carry = noneMet; phases = noPhases }
 
--- the phases of seven lists; where the lists are not sound, none
-unfoldable pub tableOf : Lists → PhaseTable
-tableOf ls = cond (soundLists ls) (tableWith (phasesOf ls)) noTable
+-- how many phases there are to meet: none where the lengths differ
+unfoldable pub phaseCount : Lists → ℕ
+phaseCount ls = cond (oneLength ls) (length (ls .pri)) 0
+
+-- on a line of spacing S: what n phases leave to carry, and the first eight of them
+abbrev pub tableAfter : ℕ → Lists → ℕ → PhaseTable
+tableAfter S ls n = record { carry = carried S (firstPhases ls n); phases = eightOf (firstPhases ls (min n 8)) }
+
+-- the phases of seven lists
+unfoldable pub tableOf : ℕ → Lists → PhaseTable
+tableOf S ls = tableAfter S ls (phaseCount ls)

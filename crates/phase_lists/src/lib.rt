@@ -1,16 +1,16 @@
-// The seven phase lists of a descriptor, read once into a table of phases.
+// The seven phase lists of a descriptor, read and judged in one pass.
 ghost use mathlib.Core.Path.{_≡_};
 ghost use lib.ListN.{getD};
 ghost use Rattle.tariff.specs.Tariffs.{noPhase};
-ghost use Rattle.phase_lists.specs.Lists.{phaseOf, listsOf, soundLists};
-ghost use Rattle.phase_lists.specs.Tables.{noTable, tableOf};
+ghost use Rattle.phase_lists.specs.Lists.{phaseOf, listsOf};
+ghost use Rattle.phase_lists.specs.Tables.{noTable, phaseCount, tableOf};
+use rules::Carry;
 use tariff::Phase;
 
-// Phases read from seven lists: whether the lists are sound, and then the phases at the front of eight and how many.
+// Phases read from seven lists: what they leave to carry, and the first eight of them at the front of an array.
 pub struct PhaseTable {
-    pub sound: bool,
+    pub carry: Carry,
     pub phases: [Phase; 8],
-    pub count: u32,
 }
 
 // A phase of no use, which fills a table up.
@@ -28,19 +28,18 @@ fn no_phase() -> Phase
     }
 }
 
-// The table of lists that are not sound.
+// The table of no phases.
 pub fn no_table() -> PhaseTable
     ensures { λ r. ⌜ r ≡ noTable ⌝ }
 {
     PhaseTable {
-        sound: false,
+        carry: Carry::start(),
         phases: [no_phase(); 8],
-        count: 0,
     }
 }
 
-// Whether the seven lists have one length, 1 to 8.
-fn sound_lists(
+// How many phases the seven lists hold: their one length, or none where their lengths differ.
+fn phase_count(
     pri: &[u32],
     pcx: &[u32],
     repx: &[u32],
@@ -48,13 +47,16 @@ fn sound_lists(
     repn: &[u32],
     ci: &[u32],
     pd: &[u32],
-) -> bool
-    ensures { λ r. ⌜ r ≡ soundLists (listsOf (now (pri .entry)) (now (pcx .entry)) (now (repx .entry)) (now (pcn .entry)) (now (repn .entry)) (now (ci .entry)) (now (pd .entry))) ⌝ }
+) -> usize
+    ensures { λ r. ⌜ r ≡ phaseCount (listsOf (now (pri .entry)) (now (pcx .entry)) (now (repx .entry)) (now (pcn .entry)) (now (repn .entry)) (now (ci .entry)) (now (pd .entry))) ⌝ }
 {
     let n = pri.len();
-    let few = (1 <= n) & (n <= 8);
     let counts = (repn.len() == n) & ((ci.len() == n) & (pd.len() == n));
-    few & ((pcx.len() == n) & ((repx.len() == n) & ((pcn.len() == n) & counts)))
+    if (pcx.len() == n) & ((repx.len() == n) & ((pcn.len() == n) & counts)) {
+        n
+    } else {
+        0
+    }
 }
 
 // The number at a place of a list; past its end 0.
@@ -88,8 +90,9 @@ fn phase_of(
     }
 }
 
-// The phases of the seven lists; where the lists are not sound, none.
+// The phases of the seven lists, on a line of this spacing. Each is read once, and met once.
 pub fn read_phases(
+    spacing: u32,
     pri: &[u32],
     pcx: &[u32],
     repx: &[u32],
@@ -98,22 +101,19 @@ pub fn read_phases(
     ci: &[u32],
     pd: &[u32],
 ) -> PhaseTable
-    ensures { λ r. ⌜ r ≡ tableOf (listsOf (now (pri .entry)) (now (pcx .entry)) (now (repx .entry)) (now (pcn .entry)) (now (repn .entry)) (now (ci .entry)) (now (pd .entry))) ⌝ }
+    ensures { λ r. ⌜ r ≡ tableOf spacing (listsOf (now (pri .entry)) (now (pcx .entry)) (now (repx .entry)) (now (pcn .entry)) (now (repn .entry)) (now (ci .entry)) (now (pd .entry))) ⌝ }
 {
-    let blank = no_table();
-    if !sound_lists(pri, pcx, repx, pcn, repn, ci, pd) {
-        return blank;
-    }
-    let n = pri.len();
-    let mut phases = blank.phases;
+    let n = phase_count(pri, pcx, repx, pcn, repn, ci, pd);
+    let mut carry = Carry::start();
+    let mut phases = [no_phase(); 8];
     let mut i = 0;
     while i < n {
-        phases[i] = phase_of(pri, pcx, repx, pcn, repn, ci, pd, i);
+        let p = phase_of(pri, pcx, repx, pcn, repn, ci, pd, i);
+        carry = carry.meet(spacing, p.pri, p.pcx, p.repx, p.pcn, p.repn, p.ci, p.pd);
+        if i < 8 {
+            phases[i] = p;
+        }
         i += 1;
     }
-    PhaseTable {
-        sound: true,
-        phases,
-        count: n as u32,
-    }
+    PhaseTable { carry, phases }
 }

@@ -1,2 +1,2 @@
 -- The files of this folder.
-mod SoundFrom
+pub mod OnePass

@@ -1,15 +1,20 @@
-// The rules that an em, a rate and a phase keep on a line.
+// The rules that an em, a rate and a phase keep on a line, and a list of phases in one pass.
 ghost use mathlib.Core.Path.{_≡_};
-ghost use Prim.Native.Nat.{min};
-ghost use lib.ListN.{take};
-ghost use Rattle.rules.specs.Rules.{
-  soundEm,
-  soundNumbers,
-  fitsIn,
-  soundPhase,
-  soundPhases,
-};
+ghost use Rattle.rules.specs.Rules.{soundEm, soundNumbers, fitsIn, soundPhase};
+
+mod carrying;
+
 use tariff::Phase;
+
+// What a list of phases leaves to carry to the next phase.
+pub struct Carry {
+    // How many phases there were, held at 9: a list has at most 8.
+    pub count: u32,
+    // Every phase so far is sound, and none before the last is endless.
+    pub sound: bool,
+    // The last phase so far is endless.
+    pub endless: bool,
+}
 
 // Whether an em keeps its rule; a rate is alike, with count 0.
 pub fn sound_em(spacing: u32, count: u32, period: u32) -> bool
@@ -44,7 +49,7 @@ fn fits_in(p: Phase, seconds: u32) -> bool
 }
 
 // Whether a phase by itself keeps its rules.
-fn is_sound(p: Phase, spacing: u32) -> bool
+pub(crate) fn is_sound(p: Phase, spacing: u32) -> bool
     ensures { λ r. ⌜ r ≡ soundPhase spacing p ⌝ }
 {
     if sound_numbers(p, spacing) {
@@ -53,28 +58,4 @@ fn is_sound(p: Phase, spacing: u32) -> bool
     } else {
         false
     }
-}
-
-// The smaller of two numbers.
-fn least(a: u32, b: u32) -> u32
-    ensures { λ r. ⌜ r ≡ min a b ⌝ }
-{
-    if a <= b { a } else { b }
-}
-
-// Whether the first phases of the array, so many or all eight, are sound, and none but the last is endless.
-pub fn sound_phases(spacing: u32, phases: [Phase; 8], count: u32) -> bool
-    ensures { λ r. ⌜ r ≡ soundPhases spacing (take count phases) ⌝ }
-{
-    let n = least(count, 8);
-    let mut i: u32 = 0;
-    while i < n {
-        let p = tariff::phase_at(phases, i);
-        let ends = (0 < p.pd) | (i + 1 == n);
-        if !(is_sound(p, spacing) & ends) {
-            return false;
-        }
-        i += 1;
-    }
-    true
 }

@@ -6,7 +6,7 @@ use mathlib.Core.List.{List, [], _∷_}
 use mathlib.Core.Path.{_≡_, refl, sym, ap, subst, _∙_}
 use lib.Dec.{ltb}
 use lib.ListN.{length, getD, take, drop}
-use Rattle.phase_lists.specs.Lists.{Lists, listsOf}
+use Rattle.phase_lists.specs.Lists.{firstPlaces}
 use Rattle.descriptor.specs.declared.TariffPart.{TariffPart}
 use Rattle.descriptor.specs.declared.BurstPart.{BurstPart}
 use Rattle.descriptor.specs.declared.Refusal.the-variants.{Grammar, Content}
@@ -23,18 +23,12 @@ use Rattle.outcomes.specs.declared.Reading.{Reading}
 use Rattle.sg.proofs.Told.{textOn, Tells, text-told}
 use Rattle.sg.proofs.Words.{given-named}
 
--- the first nine of each list
-abbrev pub firstNine : Lists → Lists
-firstNine ls =
-    listsOf (take 9 (ls .pri)) (take 9 (ls .pcx)) (take 9 (ls .repx)) (take 9 (ls .pcn)) (take 9 (ls .repn)) (take 9 (ls .ci))
-    (take 9 (ls .pd))
-
--- what the reader answers is what was meant
+-- what the reader answers is what was meant, with nine values at most of each list
 abbrev pub Agrees : Meant → Reading → Type 0
 Agrees unreadable r = r ≡ refusedAs Grammar
 Agrees senseless r = r ≡ refusedAs Content
 Agrees (descriptor t ls b) r =
-    (r .ruling ≡ Allowed) × (r .tariff ≡ t) × (r .burst ≡ b) × (listsBy (keptOf (r .counts) (r .values)) ≡ firstNine ls)
+    (r .ruling ≡ Allowed) × (r .tariff ≡ t) × (r .burst ≡ b) × (listsBy (keptOf (r .counts) (r .values)) ≡ firstPlaces ls 9)
 
 first-kept : (d : ℕ) (l : List ℕ) → firstOr d (take 9 l) ≡ firstOr d l
 first-kept d [] = refl
@@ -64,7 +58,7 @@ module _ (gs : Row Given) (n : Notes) (h : Tells gs n) (sound : anyFaulty gs ≡
   burst-told : burstBy (hasIn (n .counts)) (keptOf (n .counts) (n .values)) ≡ burstBy (has gs) (valuesOf gs)
   burst-told = rw (there 4 (omega arith), there 5 (omega arith), first-told 1 6 (omega arith), first-told 1 7 (omega arith))
 
-  lists-told : listsBy (keptOf (n .counts) (n .values)) ≡ firstNine (listsBy (valuesOf gs))
+  lists-told : listsBy (keptOf (n .counts) (n .values)) ≡ firstPlaces (listsBy (valuesOf gs)) 9
   lists-told =
       rw (kept 10 (omega arith), kept 11 (omega arith), kept 12 (omega arith), kept 13 (omega arith), kept 14 (omega arith), kept 15 (omega arith), kept 16 (omega arith))
 

@@ -1,41 +1,42 @@
--- `read_phases` meets its contract.
-use mathlib.Core.Path.{_≡_, sym}
-use Prim.Native.Nat.{_-_, _≤_}
-use native.Mathlib.Numerals.{add-one}
+-- `read_phases` meets its contract: after i phases its table is that of the first i.
+use mathlib.Core.Logic.{⊎-elim}
+use mathlib.Core.Path.{_≡_, _∙_}
+use Prim.Native.Nat.{_-_, _≤_, min}
 use native.Mathlib.Omega.{arith}
-use lib.ListN.{length}
+use borrow.Author.Needs.{needs}
+use Rattle.rules.specs.Carried.{carried}
 use Rattle.phase_lists.specs.Lists.{firstPhases, listsOf}
 use Rattle.phase_lists.specs.Tables.{eightOf, tableOf}
-use Rattle.tariff.proofs.Negated.{holds, fails}
-use Rattle.phase_lists.proofs.PhaseTables.{lists-length, stored-next, table-full}
+use Rattle.phase_lists.proofs.PhaseTables.{met-next, stored-next, stored-past}
 use Rattle.phase_lists.proofs.read_phases.Statement.{statement}
-use borrow.Author.Needs.{needs}
 use Rattle.phase_lists.proofs.read_phases.Tie as tie
 
 abbrev Inv-loop : tie.InvT-loop
-Inv-loop pri pcx repx pcn repn ci pd n phases₀ i₀ phases i = (i ≤ n) × (n ≤ 8) × (phases ≡ eightOf (firstPhases (listsOf pri pcx repx pcn repn ci pd) i))
+Inv-loop spacing pri pcx repx pcn repn ci pd n carry₀ phases₀ i₀ carry phases i =
+    let ls = listsOf pri pcx repx pcn repn ci pd in
+    (i ≤ n) × (carry ≡ carried spacing (firstPhases ls i)) × (phases ≡ eightOf (firstPhases ls (min i 8)))
 
 abbrev μ-loop : tie.MeasureT-loop
-μ-loop pri pcx repx pcn repn ci pd n phases₀ i₀ phases i = n - i
+μ-loop spacing pri pcx repx pcn repn ci pd n carry₀ phases₀ i₀ carry phases i = n - i
 
-no-table-requires : tie.Need-no-table-requires Inv-loop μ-loop
-no-table-requires c κs = search needs
+phase-count-requires : tie.Need-phase-count-requires Inv-loop μ-loop
+phase-count-requires c κs = search needs
 
-sound-lists-requires : tie.Need-sound-lists-requires Inv-loop μ-loop
-sound-lists-requires c κs = search needs
+start-requires : tie.Need-start-requires Inv-loop μ-loop
+start-requires c κs = search needs
 
-returns : tie.Need-returns Inv-loop μ-loop
-unfolding tableOf
-returns c = rw (c .before .before .no-table .ensures, fails (c .before .sound-lists .ensures) (c .if1 .taken))
+no-phase-requires : tie.Need-no-phase-requires Inv-loop μ-loop
+no-phase-requires c κs = search needs
 
 loop-holds : tie.Need-loop-holds Inv-loop μ-loop
-unfolding firstPhases
-loop-holds c =
-    let s = c .before .before in
-    (search needs, lists-length _ (holds (s .sound-lists .ensures) (c .before .if1 .left)) .1, rw (s .before .no-table .ensures))
+unfolding firstPhases carried
+loop-holds c = (search needs, c .before .start .ensures, rw (c .no-phase .ensures))
 
 phase-of-requires : tie.Need-phase-of-requires Inv-loop μ-loop
 phase-of-requires c κs = search needs
+
+meet-requires : tie.Need-meet-requires Inv-loop μ-loop
+meet-requires c κs = search needs
 
 mul-phases : tie.Need-mul-phases Inv-loop μ-loop
 mul-phases c = search needs
@@ -51,20 +52,25 @@ loop-less c = search needs
 
 loop-again : tie.Need-loop-again Inv-loop μ-loop
 loop-again c =
-    let l = c .before .before in
-    (search needs, search needs, rw (add-one, c .phase-of .ensures, l .loop .inv .2) (stored-next _ _ (omega arith)))
+    let m = c .before in
+    let p = m .before in
+    let l = p .before .before in
+    let i = l .loop .i in (
+      search needs,
+      rw (m .meet .ensures, p .phase-of .ensures, l .loop .inv .1, met-next),
+      ⊎-elim
+          (λ w. w .1 ∙ rw (p .phase-of .ensures, l .loop .inv .2) (stored-next _ i (w .0 .taken)))
+          (λ w. w .1 ∙ l .loop .inv .2 ∙ stored-past _ i (w .0 .left))
+          (c .if1 .came),
+    )
 
-cast-t20 : tie.Need-cast-t20 Inv-loop μ-loop
-cast-t20 c = search needs
-
-returns-2 : tie.Need-returns-2 Inv-loop μ-loop
-returns-2 c =
+returns : tie.Need-returns Inv-loop μ-loop
+unfolding tableOf
+returns c =
     let l = c .before in
-    let e = l .before .before in
-    let s = e .before in
-    let a = s .before .before .before .before .before .before .before .before .before .args in
-    let all : l .loop .i ≡ length (a .pri .now) = omega arith in
-    rw (l .loop .inv .2, ← all, table-full _ (l .loop .i) (sym all) (holds (s .sound-lists .ensures) (e .if1 .left)))
+    let n = l .before .before .before in
+    let all : l .loop .i ≡ n .phase-count .result = omega arith in
+    rw (l .loop .inv .1, l .loop .inv .2, all, n .phase-count .ensures)
 
 pub read-phases-spec : {M : Type 1} → statement M
 read-phases-spec =
@@ -72,15 +78,15 @@ read-phases-spec =
     (tie.spec
     Inv-loop
     μ-loop
-    no-table-requires
-    sound-lists-requires
-    returns
+    phase-count-requires
+    start-requires
+    no-phase-requires
     loop-holds
     phase-of-requires
+    meet-requires
     mul-phases
     array-set-from-phases
     add-i
     loop-less
     loop-again
-    cast-t20
-    returns-2)
+    returns)
