@@ -1,19 +1,19 @@
 #!/bin/sh
-# Runs a meter program on every stored script and compares what it prints with
-# the stored output, byte for byte.
-# Use: tests/vectors.sh PROGRAM
+# Runs a program on stored inputs and compares what it prints with the stored outputs, byte for byte. Beside an input
+# NAME.in or NAME.txt stands its output NAME.out.
+# Use: tests/vectors.sh PROGRAM INPUT..
 
-here=$(dirname "$0")
 case $1 in
 */*) program=$1 ;;
 *) program=./$1 ;;
 esac
-if [ $# -ne 1 ] || [ ! -x "$program" ]; then
-    echo "use: vectors.sh PROGRAM" >&2
+if [ $# -lt 2 ] || [ ! -x "$program" ]; then
+    echo "use: vectors.sh PROGRAM INPUT.." >&2
     exit 2
 fi
+shift
 
-# What the program prints for a script. A failed exit adds a line of its own.
+# What the program prints for an input. A failed exit adds a line of its own.
 output() {
     "$program" <"$1" || echo "exit status $?"
 }
@@ -35,27 +35,16 @@ first_difference() {
     fi
 }
 
-# Runs the scripts of one group, given as the group's name and its scripts.
-group() {
-    name=$1
-    shift
-    for script; do
-        stored=${script%.*}.out
-        if [ ! -f "$script" ] || [ ! -f "$stored" ]; then
-            echo "$name: $script or its .out file is missing"
-            exit 1
-        fi
-        if ! output "$script" | cmp -s - "$stored"; then
-            echo "$name: $script differs"
-            output "$script" | first_difference "$stored"
-            exit 1
-        fi
-    done
-    echo "$name: $# scripts"
-    total=$((total + $#))
-}
-
-total=0
-group vectors "$here"/vectors/*.in
-group examples "$here"/../examples/*.txt
-echo "$total scripts agree"
+for input; do
+    stored=${input%.*}.out
+    if [ ! -f "$input" ] || [ ! -f "$stored" ]; then
+        echo "$input or $stored is missing"
+        exit 1
+    fi
+    if ! output "$input" | cmp -s - "$stored"; then
+        echo "$input: what ${program##*/} prints differs from $stored"
+        output "$input" | first_difference "$stored"
+        exit 1
+    fi
+done
+echo "${program##*/} agrees on $# of $# stored inputs"
