@@ -1,11 +1,10 @@
 -- The grammar of the texts that controllers send: what a text says, its pieces, and how they are spelled.
 use Prim.Native.Nat.{ℕ, suc, _≤_}
-use Prim.Native.Char.{code}
-use Prim.Native.String.{String, [] as «end», _∷_ as _then_}
 use mathlib.Core.Bool.{Bool, true, false, cond, _&&_}
 use mathlib.Core.List.{List, [], _∷_, _++_}
 use mathlib.Core.Path.{_≡_}
 use lib.Dec.{leb, eqb}
+pub use Rattle.constants.specs.Bytes.{bytes}
 
 infixl 30 _▹_
 -- no or more things in order, the last on the right
@@ -73,11 +72,6 @@ piecesOf empty = head ▹ shuts
 piecesOf (signals ss s) = withSignal (commas withSignal head ss) s ▹ shuts
 
 -- THEIR BYTES
-
--- the bytes of a quoted text
-abbrev pub bytes : String → List ℕ
-bytes «end» = []
-bytes (c then s) = code c ∷ bytes s
 
 -- whether two words have the same bytes
 abbrev pub same : List ℕ → List ℕ → Bool

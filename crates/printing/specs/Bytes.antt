@@ -1,13 +1,7 @@
 -- Texts as bytes, and short texts packed in a number.
 use Prim.Native.Nat.{ℕ, zero, suc, _/_, _%_}
-use Prim.Native.Char.{code}
-use Prim.Native.String.{String, [] as «end», _∷_ as _then_}
 use mathlib.Core.List.{List, [], _∷_}
-
--- the bytes of a text
-abbrev pub bytes : String → List ℕ
-bytes «end» = []
-bytes (c then s) = code c ∷ bytes s
+pub use Rattle.constants.specs.Bytes.{bytes}
 
 -- at most k bytes of a number, the lowest first, up to the last that is not 0
 abbrev pub lowBytes : ℕ → ℕ → List ℕ

@@ -1,17 +1,15 @@
 -- The two tables of hexadecimal digits, held to what the definitions compute.
-use mathlib.Core.Path.{_≡_, refl, ap, sym, _∙_}
-use mathlib.Core.List.{List, [], _∷_}
+use mathlib.Core.Path.{_≡_, refl}
+use mathlib.Core.List.{List}
 use Prim.Native.Nat.{ℕ, zero, suc, _+_, _*_, _/_, _%_, _^_, _≤_, _<_}
 use native.Mathlib.Omega.{arith}
 use lib.ListN.{getD}
+use Rattle.constants.specs.Tables.{table}
+use Rattle.constants.proofs.Entries.{agree}
 use Rattle.grammar.specs.Reader.{classOf}
 use Rattle.scanner.specs.Machine.{nextOf, classNo}
 
--- f i, f (i + 1), .. : n values, as a list, and as the hexadecimal digits of a number, from the right
-abbrev pub table : (ℕ → ℕ) → ℕ → ℕ → List ℕ
-table f i zero = []
-table f i (suc n) = f i ∷ table f (suc i) n
-
+-- f i, f (i + 1), .. : n values, as the hexadecimal digits of a number, from the right
 abbrev pub packed : (ℕ → ℕ) → ℕ → ℕ → ℕ
 packed f i zero = 0
 packed f i (suc n) = f i + 16 * packed f (suc i) n
@@ -19,18 +17,6 @@ packed f i (suc n) = f i + 16 * packed f (suc i) n
 -- digit k, from the right, of row r
 abbrev pub digitOf : List ℕ → ℕ → ℕ → ℕ
 digitOf words r k = getD words r 0 / 2 ^ (4 * k) % 16
-
-entry-from : (f : ℕ → ℕ) (n i k : ℕ) → k < n → getD (table f i n) k 0 ≡ f (i + k)
-entry-from f zero i k h = absurd (omega arith)
-entry-from f (suc n) i zero h = ap f (omega arith)
-entry-from f (suc n) i (suc k) h = let e : suc i + k ≡ i + suc k = omega arith in entry-from f n (suc i) k (omega arith) ∙ ap f e
-
-entry : (f : ℕ → ℕ) (n k : ℕ) → k < n → getD (table f 0 n) k 0 ≡ f k
-entry f n k h = let e : 0 + k ≡ k = omega arith in entry-from f n 0 k h ∙ ap f e
-
--- functions with the same table
-agree : (f g : ℕ → ℕ) (n : ℕ) → table f 0 n ≡ table g 0 n → (k : ℕ) → k < n → f k ≡ g k
-agree f g n e k h = sym (entry f n k h) ∙ (ap (λ l. getD l k 0) e ∙ entry g n k h)
 
 abbrev classWords : List ℕ
 classWords = table (λ r. packed (λ b. classNo (classOf b)) (16 * r) 16) 0 16

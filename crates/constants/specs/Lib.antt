@@ -1,0 +1,3 @@
+-- The files of this folder.
+pub mod Bytes
+pub mod Tables
