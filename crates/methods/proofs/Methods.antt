@@ -19,14 +19,21 @@ use denote.Triple.Weaken.{weaken}
 use Rattle.line.proofs.Line as L
 use Rattle.lent.proofs.tick_in_place as lent
 use Rattle.descriptor.specs.Refusals.{soundConfiguration}
-use Rattle.line.specs.Lines.{makeOf, describeTextOf}
-use Rattle.demand.specs.Calls.{accepted, refused}
-use Rattle.demand.specs.Machine.{verdictTold, step, history}
+use Rattle.answers.specs.declared.Tick.{Tick}
+use Rattle.line.specs.Lines.{makeOf, describeTextOf, tickOf}
+use Rattle.line.specs.declared.Line.{Line}
+use Rattle.demand.specs.Calls.{tick, accepted, refused, ticked}
+use Rattle.demand.specs.Machine.{verdictTold, outcome, step, history}
 use Rattle.methods.specs.Methods.{Of, ensuring, Meeting, Does, Methods}
 
 taken : (D G clock : ℕ) → verdictTold (makeOf D G clock .verdict) ≡ cond (soundConfiguration D G) (accepted 0) (refused 1)
 unfolding makeOf
 taken D G clock = cases (soundConfiguration D G) (λ e. rw e) (λ e. rw e)
+
+-- a tick by what it tells and the line that it leaves
+lent-step : (l : Line) {r : Tick} {l′ : Line} → r ≡ tickOf l .tick → l′ ≡ tickOf l .line → step l tick ≡ outcome (ticked r) l′
+unfolding step
+lent-step l e f = rw (e, f)
 
 module _ {M : Type 1} (𝓤 : URA M) (H : Heap 𝓤) (𝓜 : Model 𝓤 H) (𝓖 : GhostRules 𝓤 H) (𝓡 : Running 𝓤 H 𝓜) where
   -- by the contract c that it is proved to meet
@@ -47,6 +54,6 @@ module _ {M : Type 1} (𝓤 : URA M) (H : Heap 𝓤) (𝓜 : Model 𝓤 H) (𝓖
         clears = told (λ κs a. L.clear_period.clauses 𝓤 H (𝓖 .A) (𝓜 .mem) (𝓡 .run) κs a .ensures tt) (L.clear_period.Met.met 𝓤 H 𝓜 𝓖 𝓡) (λ _ _ _ _. fact-mono 𝓤 _ _ (λ e. rw e));
         audits = told (λ κs a. L.audit.clauses 𝓤 H (𝓖 .A) (𝓜 .mem) (𝓡 .run) κs a .ensures tt) (L.audit.Met.met 𝓤 H 𝓜 𝓖 𝓡) (λ _ _ _ _. fact-mono 𝓤 _ _ (λ e. rw e));
         ticks = told (λ κs a. L.tick.clauses 𝓤 H (𝓖 .A) (𝓜 .mem) (𝓡 .run) κs a .ensures tt) (L.tick.Met.met 𝓤 H 𝓜 𝓖 𝓡) (λ _ _ _ _. fact-mono 𝓤 _ _ (λ e. rw e));
-        lent = told (λ κs a. lent.clauses 𝓤 H (𝓖 .A) (𝓜 .mem) (𝓡 .run) κs a .ensures tt) (lent.Met.met 𝓤 H 𝓜 𝓖 𝓡) (λ _ _ _ _. fact-mono 𝓤 _ _ (λ (e, f). rw (e, f)));
+        lent = told (λ κs a. lent.clauses 𝓤 H (𝓖 .A) (𝓜 .mem) (𝓡 .run) κs a .ensures tt) (lent.Met.met 𝓤 H 𝓜 𝓖 𝓡) (λ _ _ _ _. fact-mono 𝓤 _ _ (λ (e, f). lent-step _ e f));
         on = told (λ κs a. L.is_on.clauses 𝓤 H (𝓖 .A) (𝓜 .mem) (𝓡 .run) κs a .ensures tt) (L.is_on.Met.met 𝓤 H 𝓜 𝓖 𝓡) (λ _ _ _ _. fact-mono 𝓤 _ _ (λ e c a. rw e));
       }
