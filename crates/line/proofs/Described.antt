@@ -8,7 +8,7 @@ use borrow.Table.Steps.{cases}
 use lib.ListN.{length}
 use Rattle.tariff.specs.Tariffs.{isEndless}
 use Rattle.phase_lists.specs.Lists.{Lists, phasesOf, soundLists, firstPlaces}
-use Rattle.phase_lists.specs.Tables.{eightOf, tableOf}
+use Rattle.phase_lists.specs.Tables.{eightOf}
 use Rattle.phase_lists.proofs.PhaseTables.{sound-table}
 use Rattle.descriptor.specs.Refusals.{ruling, tariffCauses, burstCauses, descriptorCauses}
 use Rattle.descriptor.specs.Rulings.{tableFor, descriptorRuling}
@@ -34,12 +34,14 @@ use Rattle.descriptor.proofs.Rulings.{descriptor-ruling-is}
 
 -- where the tariff part is allowed, the table holds the phases of its lists
 tariff-changed-is : (S : ℕ) (e b : Bool) (t : TariffPart) (ls : Lists) (l : Line) → ruling (tariffCauses S e b t ls) ≡ Allowed → tariffChanged t (tableFor S t ls .carry .count) (tableFor S t ls .phases) l ≡ tariffChanged t (length (phasesOf ls)) (eightOf (phasesOf ls)) l
-unfolding tariffChanged tableOf
+unfolding tariffChanged
 tariff-changed-is S e b NoTariff ls l h = refl
 tariff-changed-is S e b KeepTariff ls l h = refl
 tariff-changed-is S e b (Rate P) ls l h = refl
 tariff-changed-is S e b (Em C P) ls l h = refl
-tariff-changed-is S e b Phased ls l h = let sound = not-false (soundLists ls) (none-first _ (not (soundLists ls)) _ h .0) in let t = sound-table S ls sound in rw (t .0, t .1)
+tariff-changed-is S e b Phased ls l h =
+    let sound = not-false (soundLists ls) (none-first _ (not (soundLists ls)) _ h .0) in
+    let t = sound-table S ls sound in rw (t .0, t .1)
 
 -- the changed line counts only where the descriptor is allowed
 same-answer : (r : Ruling) (l : Line) {x y : Line} (k : ℕ) → (r ≡ Allowed → x ≡ y) → answeredBy r l x k ≡ answeredBy r l y k

@@ -23,10 +23,8 @@ noTable = record { carry = noneMet; phases = noPhases }
 unfoldable pub phaseCount : Lists → ℕ
 phaseCount ls = cond (oneLength ls) (length (ls .pri)) 0
 
--- on a line of spacing S: what n phases leave to carry, and the first eight of them
-abbrev pub tableAfter : ℕ → Lists → ℕ → PhaseTable
-tableAfter S ls n = record { carry = carried S (firstPhases ls n); phases = eightOf (firstPhases ls (min n 8)) }
-
--- the phases of seven lists
+-- on a line of spacing S: what the phases of seven lists leave to carry, and the first eight of them
 unfoldable pub tableOf : ℕ → Lists → PhaseTable
-tableOf S ls = tableAfter S ls (phaseCount ls)
+tableOf S ls =
+    let n = phaseCount ls in
+    record { carry = carried S (firstPhases ls n); phases = eightOf (firstPhases ls (min n 8)) }
