@@ -16,7 +16,7 @@ use Rattle.descriptor.specs.declared.Ruling.{Ruling}
 use Rattle.descriptor.specs.declared.Ruling.the-variants.{Allowed, TurnedDown}
 use Rattle.descriptor.specs.declared.Refusal.the-variants.{Configuration, Period, NoEndlessEm, Interval}
 use Rattle.descriptor.specs.declared.Refusal.the-variants.{Lists as PhaseLists, Phase, Burst, BurstRuns}
-use Rattle.descriptor.specs.declared.Refusal.the-variants.{Grammar, Content}
+use Rattle.descriptor.specs.declared.Refusal.the-variants.{Grammar, Content, Row}
 
 -- the paper's number of each cause
 abbrev pub refusalNumber : Refusal → ℕ
@@ -30,6 +30,7 @@ refusalNumber Burst = 7
 refusalNumber BurstRuns = 8
 refusalNumber Grammar = 12
 refusalNumber Content = 13
+refusalNumber Row = 14
 
 -- a cause to refuse a call, and whether it applies
 pub data Cause : Type 0 where

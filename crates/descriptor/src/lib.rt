@@ -42,6 +42,7 @@ pub enum Refusal {
     BurstRuns,
     Grammar,
     Content,
+    Row,
 }
 
 // What the table of refusals makes of a call.

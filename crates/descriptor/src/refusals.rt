@@ -28,6 +28,7 @@ impl Refusal {
             Refusal::BurstRuns => 8,
             Refusal::Grammar => 12,
             Refusal::Content => 13,
+            Refusal::Row => 14,
         }
     }
 }

@@ -1,2 +1,4 @@
--- The files of this folder.
+-- The files of this folder, lowest first.
 pub mod Answer
+pub mod Turns
+pub mod Ticking

@@ -54,7 +54,7 @@ use denote.Triple.Clauses.{ensured, lasts}
 use denote.Triple.Walked.{says, Stays, stay-none, walkOf, AllGo, goes-none, Walks, ends-at, walked, walk-meets}
 use Rattle.line.specs.declared.Line.{Line}
 use Rattle.lent_ticks.specs.Runs.{tickedAll, rowAfter}
-use Rattle.lent_ticks.proofs.Turns.{next-fits, holds, fails, either}
+use Rattle.lent.proofs.Turns.{next-fits, holds, fails, either}
 use Rattle.line.proofs.Line as L
 use Rattle.line.proofs.Line.Laws as L′
 use Rattle.lent_ticks.proofs.tick_row as tr

@@ -49,7 +49,7 @@ use Rattle.answers.specs.declared.Tick.{Tick}
 use Rattle.line.specs.Lines.{tickOf}
 use Rattle.line.specs.declared.Line.{Line}
 use Rattle.lent_ticks.specs.Runs.{afterTicks}
-use Rattle.lent_ticks.proofs.Turns.{next-fits, holds, fails, either}
+use Rattle.lent.proofs.Turns.{next-fits, holds, fails, either}
 use Rattle.line.proofs.Line as L
 use Rattle.line.proofs.Line.Laws as L′
 use Rattle.answers.proofs.Tick as K

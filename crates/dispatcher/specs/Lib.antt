@@ -1,2 +1,2 @@
 -- The files of this folder.
-pub mod Turns
+pub mod Dispatch

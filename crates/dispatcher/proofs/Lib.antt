@@ -1,0 +1,5 @@
+-- The files of this folder, lowest first.
+pub mod Lengths
+pub mod GatherLaws
+pub mod TurnLaws
+pub mod RowLaws

@@ -1,0 +1,36 @@
+-- Laws of going round: the first place from one on, by one place more.
+use mathlib.Core.Path.{_≡_, sym, _∙_}
+use mathlib.Core.Bool.{Bool, true, false}
+use Prim.Native.Nat.{ℕ, suc, _+_, _-_, min, _≤_, _<_}
+use native.Mathlib.Numerals.{add-one}
+use native.Mathlib.Omega.{arith}
+use Rattle.dispatcher.specs.Dispatch.{firstFrom, goingRound}
+use Rattle.dispatcher.specs.declared.Turn.{Turn}
+use Rattle.dispatcher.specs.declared.Turn.the-variants.{None, Of}
+
+module _ (f : ℕ → Bool) (i to : ℕ) where
+  one-more : i < to → to - i ≡ suc (to - (i + 1))
+  one-more l = omega arith
+
+  pub first-here : i < to → f i ≡ true → firstFrom f (to - i) i ≡ Of i
+  unfolding firstFrom
+  first-here l e = rw (one-more l, e)
+
+  pub first-later : i < to → f i ≡ false → firstFrom f (to - i) i ≡ firstFrom f (to - (i + 1)) (i + 1)
+  unfolding firstFrom
+  first-later l e = rw (one-more l, e, add-one i)
+
+  pub first-none : to ≤ i → firstFrom f (to - i) i ≡ None
+  unfolding firstFrom
+  first-none l = let e : to - i ≡ 0 = omega arith in rw e
+
+-- in a row of n, from place i on
+module _ (f : ℕ → Bool) (n i : ℕ) where
+  pub turn-onward : (t : Turn) (j : ℕ) → t ≡ firstFrom f (n - i) i → t ≡ Of j → Of j ≡ goingRound f n i
+  turn-onward t j e g = rw (sym e, g)
+
+  pub turn-round : (t s : Turn) → t ≡ firstFrom f (n - i) i → t ≡ None → i < n → s ≡ firstFrom f (i - 0) 0 → s ≡ goingRound f n i
+  turn-round t s e g l h = let z : i - 0 ≡ min i n = omega arith in h ∙ rw (sym e, g, z)
+
+  pub turn-whole : (t s : Turn) → t ≡ firstFrom f (n - i) i → t ≡ None → n ≤ i → s ≡ firstFrom f (n - 0) 0 → s ≡ goingRound f n i
+  turn-whole t s e g l h = let z : n - 0 ≡ min i n = omega arith in h ∙ rw (sym e, g, z)
