@@ -1,4 +1,5 @@
 -- The files of this folder, lowest first.
+pub mod Names
 pub mod Refusals
 pub mod Rulings
 pub mod OnePass

@@ -6,17 +6,10 @@ use lib.Dec.{eqb}
 use Rattle.tariff.specs.Ranges.{within}
 use Rattle.rules.specs.Rules.{soundEm, soundPhases}
 use Rattle.phase_lists.specs.Lists.{Lists, phasesOf, soundLists}
-use Rattle.descriptor.specs.declared.TariffPart.{TariffPart}
-use Rattle.descriptor.specs.declared.TariffPart.the-variants.{None as NoTariff, Keep as KeepTariff}
-use Rattle.descriptor.specs.declared.TariffPart.the-variants.{Rate, Em, Phased}
-use Rattle.descriptor.specs.declared.BurstPart.{BurstPart}
-use Rattle.descriptor.specs.declared.BurstPart.the-variants.{None as NoBurst, Keep as KeepBurst, Start}
-use Rattle.descriptor.specs.declared.Refusal.{Refusal}
-use Rattle.descriptor.specs.declared.Ruling.{Ruling}
-use Rattle.descriptor.specs.declared.Ruling.the-variants.{Allowed, TurnedDown}
-use Rattle.descriptor.specs.declared.Refusal.the-variants.{Configuration, Period, NoEndlessEm, Interval}
-use Rattle.descriptor.specs.declared.Refusal.the-variants.{Lists as PhaseLists, Phase, Burst, BurstRuns}
-use Rattle.descriptor.specs.declared.Refusal.the-variants.{Grammar, Content, Row}
+use Rattle.descriptor.specs.Names.{TariffPart, NoTariff, KeepTariff, Rate, Em, Phased}
+use Rattle.descriptor.specs.Names.{BurstPart, NoBurst, KeepBurst, Start, Ruling, Allowed, TurnedDown, Refusal}
+use Rattle.descriptor.specs.Names.{Configuration, Period, NoEndlessEm, Interval, PhaseLists, Phase}
+use Rattle.descriptor.specs.Names.{Burst, BurstRuns, Grammar, Content, Row}
 
 -- the paper's number of each cause
 abbrev pub refusalNumber : Refusal → ℕ

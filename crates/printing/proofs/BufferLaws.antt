@@ -8,6 +8,7 @@ use native.Mathlib.Omega.{arith}
 use lib.Dec.{ltb}
 use lib.ListN.{length, take, drop, set, length-append, length-set}
 use lib.Seq.{take-at, drop-append-add, drop-drop, length-take-le, paste-zero, set-split, append-snoc}
+use Rattle.printing.specs.Text.{digitsOf}
 use Rattle.printing.specs.Buffer.{pasted, Put, longest, written}
 use Rattle.printing.specs.declared.Written.the-variants.{Next}
 
@@ -35,6 +36,11 @@ module _ (b : List ℕ) (at : ℕ) (within : at ≤ length b) where
     size = q .size ∙ p .size;
     holds = q .holds ∙ (rw (p .holds, p .place) (pasted-twice t u));
   }
+
+  -- a text, and then a number and a tail from its end on
+  pub put-number : (x : ℕ) (tail : List ℕ) {t b′ b″ : List ℕ} {n m : ℕ} → Put b at t b′ n → Put b′ n (digitsOf x ++ tail) b″ m
+      → Put b at (t ++ digitsOf x ++ tail) b″ m
+  put-number x tail {t} p q = rw (append-assoc t (digitsOf x) tail) (put-then p q)
 
   -- a byte that is stored is a text of one byte that is put
   put-byte : (x : ℕ) → at < length b → Put b at (x ∷ []) (set b at x) (at + 1)

@@ -1,10 +1,10 @@
--- The events that the paper's example prints.
+-- The events that the paper's example prints. And a notice and counters of a card.
 use mathlib.Core.Path.{_≡_, refl}
 use mathlib.Core.Bool.{true, false}
 use mathlib.Core.List.{_++_}
 use Rattle.answers.specs.declared.Front.the-variants.{None as NoFront, Tariff as TariffFront, Burst as BurstFront}
 use Rattle.printing.specs.Bytes.{bytes}
-use Rattle.printing.specs.Text.{digitsOf, tickText}
+use Rattle.printing.specs.Text.{digitsOf, tickText, noticeText, countersText}
 
 -- the events of the paper's example from tick 201 on
 pub output :
@@ -14,3 +14,18 @@ pub output :
     ≡ bytes "f 201 m 3\nr 201\nc 251 m\nf 401 b 4\n"
 unfolding digitsOf
 output = refl
+
+-- the notice of a burst that is complete, and of two reports
+pub notice : noticeText 1_000 64 false true 2 ≡ bytes "n 1000 64 0 1 2\n"
+unfolding digitsOf
+notice = refl
+
+-- the notice of a tariff that is complete at the first tick, with no report
+pub notice-first : noticeText 1 0 true false 0 ≡ bytes "n 1 0 1 0 0\n"
+unfolding digitsOf
+notice-first = refl
+
+-- the counters, the largest of them ten digits long
+pub counters : countersText 4_294_967_295 7 ≡ bytes "a 4294967295 7\n"
+unfolding digitsOf
+counters = refl

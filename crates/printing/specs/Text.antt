@@ -1,6 +1,6 @@
--- The text that `meter` prints.
+-- The text that `meter` and `card` print.
 use mathlib.Core.Path.{_≡_}
-use mathlib.Core.Bool.{Bool, cond}
+use mathlib.Core.Bool.{Bool, true, false, cond}
 use mathlib.Core.List.{List, [], _∷_, _++_}
 use Prim.Native.Nat.{ℕ, zero, suc, _+_, _/_, _%_, _≤_}
 use Prim.Native.String.{String, _++_ as _&_}
@@ -75,3 +75,19 @@ tickText clock cpc t =
     ++ when (t .burst) (completeText clock burstLetter)
     ++ frontText clock cpc (t .front)
     ++ when (t .report) (reportText clock)
+
+-- a mark as a number
+abbrev pub bit : Bool → ℕ
+bit false = 0
+bit true = 1
+
+-- the line of a notice: `n`, the tick, the place of the line, the marks of the tariff and of the burst, the reports
+abbrev pub noticeText : ℕ → ℕ → Bool → Bool → ℕ → List ℕ
+noticeText tick place tariff burst reports =
+    bytes "n " ++ digitsOf tick ++ bytes " " ++ digitsOf place
+    ++ bytes " " ++ digitsOf (bit tariff) ++ bytes " " ++ digitsOf (bit burst)
+    ++ bytes " " ++ digitsOf reports ++ bytes "\n"
+
+-- the line of the counters: `a`, cpc and pcslr
+abbrev pub countersText : ℕ → ℕ → List ℕ
+countersText cpc pcslr = bytes "a " ++ digitsOf cpc ++ bytes " " ++ digitsOf pcslr ++ bytes "\n"

@@ -1,8 +1,11 @@
-// The lines that the program `meter` prints.
+// The lines that the programs `meter` and `card` print.
 mod buffer;
 mod decimal;
+mod notices;
 mod text;
 
+pub use notices::put_counters;
+pub use notices::put_notice;
 pub use text::put_answer;
 pub use text::put_tick;
 

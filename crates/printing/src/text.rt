@@ -35,12 +35,12 @@ const ENDS_TARIFF: u64 = 0x0a6220; // " b\n"
 
 const ENDS_BURST: u64 = 0x0a6d20; // " m\n"
 
-const NEWLINE: u64 = 0x0a; // "\n"
+pub(crate) const NEWLINE: u64 = 0x0a; // "\n"
 
-const NOTHING: u64 = 0;
+pub(crate) const NOTHING: u64 = 0;
 
 // Whether the longest text has no room from `at` on.
-fn is_full(length: usize, at: usize) -> bool
+pub(crate) fn is_full(length: usize, at: usize) -> bool
     ensures { λ r. ⌜ r ≡ ltb length (at + longest) ⌝ }
 {
     if length < 69 {

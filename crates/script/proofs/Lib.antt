@@ -2,4 +2,6 @@
 pub mod WordLaws
 pub mod NumberLaws
 pub mod ReadLaws
+mod CardLaws
+pub mod TextLaws
 pub mod ReadBack

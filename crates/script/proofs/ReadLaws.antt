@@ -99,7 +99,8 @@ read-whole {A} {l} {i} {a} bad e h = rw (e, ← h .told) (at (ltb (length l) i) 
     at false ws = refl
 
 module _ {l : List ℕ} {at : ℕ} {w : Word} (n : NextWord l at w) where
-  left : ended l (w .end) ≡ noWord (rest (wordsOf (drop at l)))
+  -- the words that are left past a word are those after it
+  pub left : ended l (w .end) ≡ noWord (rest (wordsOf (drop at l)))
   left = rw (le-ltb (length l) (w .end) (n .within), n .others)
 
   -- a word that no other follows is the last

@@ -106,7 +106,7 @@ next-word l at s e hs he blanks past =
     let len : length (leading m) ≡ e - s = omega arith in
     let w : take (e - s) m ≡ leading m = ap (take (e - s)) (sym cut) ∙ take-at (leading m) (drop e l) (e - s) len in
     let first-word : word (filled (pieces (drop at l))) ≡ parsed (leading m) (filled (pieces (drop e l))) = rw (past, blanks) (unfold-words (drop at l)) in
-    record { ordered = omega arith; within = he; spelled = w ∙ (cc); others = (cc) }
+    record { ordered = omega arith; within = he; begins = blanks; past = past; spelled = w ∙ (cc); others = (cc) }
 
 -- whether a line has no byte
 abbrev noByte : List ℕ → Bool

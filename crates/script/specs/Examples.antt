@@ -1,13 +1,19 @@
--- The four lines of input of the paper's example. And lines that are bad.
+-- The four lines of input of the paper's example. And lines of a card's script, and lines that are bad.
 use mathlib.Core.Path.{_≡_, refl}
 use mathlib.Core.List.{[], _∷_, map}
 use Prim.Native.String.{String}
-use Rattle.descriptor.specs.declared.TariffPart.the-variants.{Em}
-use Rattle.descriptor.specs.declared.BurstPart.the-variants.{Start}
+use lib.ListN.{drop}
+use Rattle.descriptor.specs.declared.TariffPart.the-variants.{Em, Phased}
+use Rattle.descriptor.specs.declared.BurstPart.the-variants.{Keep, Start}
+use Rattle.descriptor.specs.declared.Hook.the-variants.{Stop}
 use Rattle.script.specs.Words.{wordsOf}
 use Rattle.script.specs.Commands.{commandOf}
+use Rattle.script.specs.Cards.{cardCommandOf}
 use Rattle.script.specs.declared.Command.{Command}
-use Rattle.script.specs.declared.Command.the-variants.{Bad, Configure, Period, Describe, Run}
+use Rattle.script.specs.declared.Command.the-variants.{Bad, Configure, Period, NoPeriod, Describe, OnHook, Run}
+use Rattle.script.specs.declared.CardCommand.{CardCommand}
+use Rattle.script.specs.declared.CardCommand.the-variants.{Bad as BadCard, Configure as Add}
+use Rattle.script.specs.declared.CardCommand.the-variants.{On, Audit, Text, Tick}
 use Rattle.printing.specs.Bytes.{bytes}
 
 -- the command of a line
@@ -33,3 +39,52 @@ pub bad :
     ≡ Bad ∷ Bad ∷ Bad ∷ Bad ∷ Bad ∷ Bad ∷ Bad ∷ []
 unfolding wordsOf
 bad = refl
+
+-- the command of a line of a card's script
+abbrev cardOf : String → CardCommand
+cardOf s = cardCommandOf (bytes s)
+
+-- lines of a card's script
+pub card-input :
+    map cardOf
+    ("cfg 50 50 0"
+    ∷ "at 0 rp 3"
+    ∷ "at 64 rp off"
+    ∷ "at 1 sig ph 2 keep"
+    ∷ " at  2  hook stop "
+    ∷ "at 7 audit"
+    ∷ "tick 1000000"
+    ∷ [])
+    ≡ Add 50 50 0
+    ∷ On 0 (Period 3)
+    ∷ On 64 NoPeriod
+    ∷ On 1 (Describe Phased 2 Keep)
+    ∷ On 2 (OnHook Stop)
+    ∷ Audit 7
+    ∷ Tick 1_000_000
+    ∷ []
+unfolding wordsOf
+card-input = refl
+
+-- a text stands from SG on, whatever follows
+pub card-text : map cardOf ("at 7 SG 1" ∷ "  at   7   SGx \t " ∷ "at 7 SG" ∷ []) ≡ Text 7 5 ∷ Text 7 11 ∷ Text 7 5 ∷ []
+unfolding wordsOf
+card-text = refl
+
+-- with the blanks at its end
+pub card-text-bytes : drop 11 (bytes "  at   7   SGx \t ") ≡ bytes "SGx \t "
+card-text-bytes = refl
+
+-- what is not for one line of a row, and what is not for the row
+pub card-misplaced :
+    map cardOf ("at 0 run 5" ∷ "at 0 cfg 50 50 0" ∷ "at 0 tick 5" ∷ "rp 3" ∷ "run 5" ∷ "audit" ∷ "SG" ∷ [])
+    ≡ BadCard ∷ BadCard ∷ BadCard ∷ BadCard ∷ BadCard ∷ BadCard ∷ BadCard ∷ []
+unfolding wordsOf
+card-misplaced = refl
+
+-- a place that is no number or no word of its own, S and G apart, a word too many or too few, and a tick past the top
+pub card-bad :
+    map cardOf ("at x SG" ∷ "at 7SG" ∷ "at SG" ∷ "at 7 S G" ∷ "at 7 audit 1" ∷ "at 7 rp" ∷ "at 7" ∷ "tick 1000001" ∷ [])
+    ≡ BadCard ∷ BadCard ∷ BadCard ∷ BadCard ∷ BadCard ∷ BadCard ∷ BadCard ∷ BadCard ∷ []
+unfolding wordsOf
+card-bad = refl

@@ -5,4 +5,5 @@ pub mod Readers
 pub mod Runs
 pub mod Told
 pub mod Commands
+pub mod Cards
 pub mod Examples

@@ -6,6 +6,7 @@ use mathlib.Core.List.{List, []}
 use lib.Dec.{ltb}
 use lib.ListN.{length, take, drop}
 use Rattle.script.specs.Words.{wordsOf}
+use Rattle.script.specs.Runs.{pastBlanks, pastWord}
 use Rattle.script.specs.Readers.{Parsed, failed, parsed, first, rest, noWord}
 use Rattle.script.specs.declared.words.Word.{Word}
 
@@ -29,6 +30,8 @@ ended l at = cond (ltb (length l) at) false (noWord (wordsOf (drop at l)))
 pub record NextWord (l : List ℕ) (at : ℕ) (w : Word) : Type 0 where
   pub ordered : w .start ≤ w .end
   pub within : w .end ≤ length l
+  pub begins : drop (w .start) l ≡ pastBlanks (drop at l)
+  pub past : drop (w .end) l ≡ pastWord (drop (w .start) l)
   pub spelled : take (w .end - w .start) (drop (w .start) l) ≡ first (wordsOf (drop at l))
   pub others : wordsOf (drop (w .end) l) ≡ rest (wordsOf (drop at l))
 

@@ -1,4 +1,4 @@
-// The commands.
+// The commands of `meter`.
 ghost use mathlib.Core.Path.{_≡_};
 ghost use mathlib.Core.List.{[], _∷_};
 ghost use lib.ListN.{drop};
@@ -28,7 +28,7 @@ use super::words::next_word;
 use descriptor::Hook;
 
 // Reads what follows `cfg`: D, G and the clock.
-fn read_configure(line: &[u8], at: usize) -> Command
+pub(crate) fn read_configure(line: &[u8], at: usize) -> Command
     ensures { λ r. ⌜ r ≡ whole Bad (configure (wordsOf (drop at (now (line .entry))))) ⌝ }
 {
     let d = next_number(line, at);
@@ -60,7 +60,7 @@ fn period_of(word: &[u8]) -> Command
 }
 
 // Reads what follows `rp`.
-fn read_period(line: &[u8], at: usize) -> Command
+pub(crate) fn read_period(line: &[u8], at: usize) -> Command
     ensures { λ r. ⌜ r ≡ whole Bad (period (wordsOf (drop at (now (line .entry))))) ⌝ }
 {
     let word = last_word(line, at);
@@ -70,7 +70,7 @@ fn read_period(line: &[u8], at: usize) -> Command
 }
 
 // Reads what follows `sig`: T and U.
-fn read_describe(line: &[u8], at: usize) -> Command
+pub(crate) fn read_describe(line: &[u8], at: usize) -> Command
     ensures { λ r. ⌜ r ≡ whole Bad (describe (wordsOf (drop at (now (line .entry))))) ⌝ }
 {
     let t = next_tariff(line, at);
@@ -102,7 +102,7 @@ fn hook_of(word: &[u8]) -> Command
 }
 
 // Reads what follows `hook`.
-fn read_hook(line: &[u8], at: usize) -> Command
+pub(crate) fn read_hook(line: &[u8], at: usize) -> Command
     ensures { λ r. ⌜ r ≡ whole Bad (hook (wordsOf (drop at (now (line .entry))))) ⌝ }
 {
     let word = last_word(line, at);
@@ -112,7 +112,7 @@ fn read_hook(line: &[u8], at: usize) -> Command
 }
 
 // Reads what follows `run`: T.
-fn read_run(line: &[u8], at: usize) -> Command
+pub(crate) fn read_run(line: &[u8], at: usize) -> Command
     ensures { λ r. ⌜ r ≡ whole Bad (run (wordsOf (drop at (now (line .entry))))) ⌝ }
 {
     let t = next_number(line, at);

@@ -1,4 +1,4 @@
-// The words of the language, packed: the lowest byte of a number is its word's first.
+// The words of the languages, packed: the lowest byte of a number is its word's first.
 pub(crate) const CFG: u64 = 0x676663; // "cfg"
 
 pub(crate) const RP: u64 = 0x7072; // "rp"
@@ -8,6 +8,14 @@ pub(crate) const SIG: u64 = 0x676973; // "sig"
 pub(crate) const HOOK: u64 = 0x6b6f6f68; // "hook"
 
 pub(crate) const RUN: u64 = 0x6e7572; // "run"
+
+pub(crate) const AT: u64 = 0x7461; // "at"
+
+pub(crate) const AUDIT: u64 = 0x7469647561; // "audit"
+
+pub(crate) const TICK: u64 = 0x6b636974; // "tick"
+
+pub(crate) const SG: u64 = 0x4753; // "SG"
 
 pub(crate) const OFF: u64 = 0x66666f; // "off"
 

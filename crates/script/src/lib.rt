@@ -1,9 +1,10 @@
-// The language of the program `meter`: what each line of its input asks.
+// The languages of the programs `meter` and `card`: what each line of their input asks.
 use descriptor::BurstPart;
 use descriptor::Hook;
 use descriptor::TariffPart;
 use tariff::Phase;
 
+mod card_lines;
 mod commands;
 mod keywords;
 mod numbers;
@@ -11,10 +12,12 @@ mod parts;
 mod phases;
 mod words;
 
+pub use card_lines::read_card;
 pub use commands::read_command;
 pub use phases::read_phase;
 
-// What a line of input asks. `phases` is the number of phase lines that follow, 0 where the tariff is not phased.
+// What a line that `meter` reads asks. `phases` is the number of phase lines that follow, 0 where the tariff is not
+// phased.
 pub enum Command {
     Bad,
     Configure {
@@ -31,6 +34,16 @@ pub enum Command {
     },
     OnHook(Hook),
     Run(u32),
+}
+
+// What a line of a card's script asks. A text stands from the byte `from` on to the end of the line.
+pub enum CardCommand {
+    Bad,
+    Configure { pulse: u32, gap: u32, clock: u32 },
+    On { place: u32, command: Command },
+    Audit(u32),
+    Text { place: u32, from: usize },
+    Tick(u32),
 }
 
 // What a phase line says.

@@ -1,0 +1,82 @@
+-- The lines that `card` reads.
+use Prim.Native.Nat.{ℕ, _-_}
+use mathlib.Core.Bool.{Bool, cond}
+use mathlib.Core.List.{List, [], _∷_}
+use lib.ListN.{length, take}
+use Rattle.script.specs.Words.{same, wordsOf}
+use Rattle.script.specs.Runs.{pastBlanks, pastWord}
+use Rattle.script.specs.Readers.{Reader, parsed, _>>=_, give, word, number, lookup, choice, whole}
+use Rattle.script.specs.Commands.{configure, period, describe, hook, run}
+use Rattle.script.specs.declared.Command.{Command}
+use Rattle.script.specs.declared.Command.the-variants.{Bad, Configure, Period, NoPeriod, Describe, OnHook, Run}
+use Rattle.script.specs.declared.CardCommand.{CardCommand}
+use Rattle.script.specs.declared.CardCommand.the-variants.{Bad as BadCard, Configure as Add}
+use Rattle.script.specs.declared.CardCommand.the-variants.{On, Audit, Text, Tick}
+use Rattle.printing.specs.Bytes.{bytes}
+
+-- what a command of `meter` asks of the row: cfg adds a line to it, and run makes ticks of it
+abbrev pub ofRow : Command → CardCommand
+ofRow Bad = BadCard
+ofRow (Configure d g clock) = Add d g clock
+ofRow (Period n) = BadCard
+ofRow NoPeriod = BadCard
+ofRow (Describe t k u) = BadCard
+ofRow (OnHook h) = BadCard
+ofRow (Run t) = Tick t
+
+-- a command of `meter` on the line at a place; a bad one stays bad
+abbrev pub ofPlace : ℕ → Command → CardCommand
+ofPlace place Bad = BadCard
+ofPlace place (Configure d g clock) = On place (Configure d g clock)
+ofPlace place (Period n) = On place (Period n)
+ofPlace place NoPeriod = On place NoPeriod
+ofPlace place (Describe t k u) = On place (Describe t k u)
+ofPlace place (OnHook h) = On place (OnHook h)
+ofPlace place (Run t) = On place (Run t)
+
+-- reads what `meter` reads, and gives what it is for a card
+abbrev pub asked : (Command → CardCommand) → Reader Command → Reader CardCommand
+asked f r = do
+  c ← r
+  give (f c)
+
+-- reads all the words that are left, and gives a
+abbrev pub all : {A : Type 0} → A → Reader A
+all a ws = parsed a []
+
+-- whether a word begins with `SG`
+abbrev pub isText : List ℕ → Bool
+isText w = same (take 2 w) (bytes "SG")
+
+-- what follows `at I`, where the next word begins at the place `from`: a text up to the end of the line, or a command
+abbrev pub placed : ℕ → ℕ → Reader CardCommand
+placed from place = do
+  w ← word
+  cond (isText w) (all (Text place from)) (lookup w
+      (("audit", give (Audit place))
+      ∷ ("rp", asked (ofPlace place) period)
+      ∷ ("sig", asked (ofPlace place) describe)
+      ∷ ("hook", asked (ofPlace place) hook)
+      ∷ []))
+
+-- what follows `at`: I, and what is for the line there
+abbrev pub atPlace : ℕ → Reader CardCommand
+atPlace from = do
+  place ← number
+  placed from place
+
+-- `cfg D G clock`, `tick T`, T as in `run T`, or `at I ..`, where the third word begins at the place `from`
+abbrev pub cardCommand : ℕ → Reader CardCommand
+cardCommand from = choice (("cfg", asked ofRow configure) ∷ ("tick", asked ofRow run) ∷ ("at", atPlace from) ∷ [])
+
+-- the place in the line l where the first word of its last bytes m begins
+abbrev pub beginning : List ℕ → List ℕ → ℕ
+beginning l m = length l - length (pastBlanks m)
+
+-- past the first word of a line
+abbrev pub pastFirst : List ℕ → List ℕ
+pastFirst l = pastWord (pastBlanks l)
+
+-- the command of a line of a card's script; anything else is bad
+abbrev pub cardCommandOf : List ℕ → CardCommand
+cardCommandOf l = whole BadCard (cardCommand (beginning l (pastFirst (pastFirst l))) (wordsOf l))
