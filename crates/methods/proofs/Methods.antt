@@ -37,7 +37,7 @@ lent-step l e f = rw (e, f)
 
 module _ {M : Type 1} (𝓤 : URA M) (H : Heap 𝓤) (𝓜 : Model 𝓤 H) (𝓖 : GhostRules 𝓤 H) (𝓡 : Running 𝓤 H 𝓜) where
   -- by the contract c that it is proved to meet
-  told : {T : Ended} {code : Routine} {claim : Of T (Type 0)} (c : Of T (SProp 𝓤)) → Meeting 𝓤 H 𝓜 𝓖 𝓡 T code c
+  pub told : {T : Ended} {code : Routine} {claim : Of T (Type 0)} (c : Of T (SProp 𝓤)) → Meeting 𝓤 H 𝓜 𝓖 𝓡 T code c
       → ((κs : Lfts (T .signature .lifetimes)) (a : Args (T .signature) κs) (r : Res (T .signature) κs) (e : AtExit T κs) → ent 𝓤 (c κs a r e) (fact 𝓤 (claim κs a r e))) → Does 𝓤 H 𝓜 𝓖 𝓡 T code claim
   told {T} {code} {claim} c met tells =
       record { does = weaken 𝓤 H (𝓖 .A) T (givenOf 𝓤 H 𝓜 𝓖) (ensuring 𝓤 H 𝓜 𝓖 𝓡 T c) (λ κs a _ r e. fact 𝓤 (claim κs a r e)) (λ κs a _ r ws. tells κs a r (atExit T κs a ws)) (𝓡 .run code) (routine-mono 𝓤 H 𝓜 𝓡 code) met }
