@@ -9,7 +9,8 @@ use lib.ListN.{length, getD, set}
 use Rattle.answers.specs.declared.Tick.{Tick}
 use Rattle.line.specs.Lines.{idleLine, tickOf}
 use Rattle.line.specs.declared.Line.{Line}
-use Rattle.dispatcher.specs.Dispatch.{gathered, gatherAll, waitsIn, badRow, wrongRow, tickedRow, toldRow, sentBy, afterTick, dispatchOf, withWaiting, gatheredAt, dispatchedBy}
+use Rattle.dispatcher.specs.Dispatch.{gathered, gatherAll, waitsIn, badRow, wrongRow, tickedRow, toldRow, sentBy, afterTick, dispatchOf}
+use Rattle.dispatcher.specs.ByLine.{withWaiting, gatheredAt, dispatchedBy}
 use Rattle.dispatcher.specs.declared.Waiting.{Waiting}
 use Rattle.dispatcher.specs.declared.Dispatcher.{Dispatcher}
 use Rattle.dispatcher.specs.declared.Dispatched.{Dispatched}

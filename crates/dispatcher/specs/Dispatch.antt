@@ -112,19 +112,3 @@ unfoldable pub dispatchOf : Dispatcher → List Line → Dispatched
 dispatchOf d ls =
     cond (wrongRow (d .length) (length ls)) (record { dispatcher = d; reply = Refuses Row })
     (record { dispatcher = afterTick d (length ls) (toldRow ls); reply = Sends (sentBy d (length ls) (toldRow ls)) })
-
--- ---- the same as the code takes it: the ticks of one line after the other, and then the turn
-
-abbrev pub withWaiting : Dispatcher → List Waiting → Dispatcher
-withWaiting d ws = record { length = d .length; next = d .next; waiting = ws }
-
-unfoldable pub gatheredAt : Dispatcher → ℕ → Tick → Dispatcher
-gatheredAt d i t = withWaiting d (set (d .waiting) i (gathered (waitsIn (d .waiting) i) t))
-
--- after n lines were ticked, none of a row that is refused
-abbrev pub dispatchedBy : Dispatcher → ℕ → Dispatched
-dispatchedBy d n =
-    let w = waitsIn (d .waiting) in
-    let turn = turnOf w n (d .next) in
-    cond (eqb n 0) (record { dispatcher = d; reply = Refuses Row })
-    (record { dispatcher = servedBy n (d .next) (d .waiting) turn; reply = Sends (sentOf w turn) })

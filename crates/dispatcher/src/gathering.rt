@@ -2,7 +2,8 @@
 ghost use mathlib.Core.Path.{_≡_};
 ghost use mathlib.Core.Bool.{cond, _||_};
 ghost use Rattle.state.specs.Rules.{oneMore};
-ghost use Rattle.dispatcher.specs.Dispatch.{nothing, tells, gathered, waitsIn, gatheredAt};
+ghost use Rattle.dispatcher.specs.Dispatch.{nothing, tells, gathered, waitsIn};
+ghost use Rattle.dispatcher.specs.ByLine.{gatheredAt};
 use super::Dispatcher;
 use super::Waiting;
 use answers::Tick;

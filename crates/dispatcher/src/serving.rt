@@ -1,7 +1,8 @@
 // The notice of a tick, and the dispatcher after it.
 ghost use mathlib.Core.Path.{_≡_};
 ghost use mathlib.Core.Bool.{cond};
-ghost use Rattle.dispatcher.specs.Dispatch.{wrongRow, sentOf, waitsIn, servedBy, dispatchedBy};
+ghost use Rattle.dispatcher.specs.Dispatch.{wrongRow, sentOf, waitsIn, servedBy};
+ghost use Rattle.dispatcher.specs.ByLine.{dispatchedBy};
 use super::Dispatched;
 use super::Dispatcher;
 use super::Reply;

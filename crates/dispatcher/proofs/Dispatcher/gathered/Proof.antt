@@ -1,6 +1,6 @@
 -- `Dispatcher::gathered` meets its contract.
 use mathlib.Core.Path.{sym, _∙_}
-use Rattle.dispatcher.specs.Dispatch.{gatheredAt}
+use Rattle.dispatcher.specs.ByLine.{gatheredAt}
 use Rattle.dispatcher.proofs.Lengths.{sixty-four}
 use Rattle.dispatcher.proofs.GatherLaws.{gathers-nothing, gathers-past}
 use borrow.Author.Needs.{needs}

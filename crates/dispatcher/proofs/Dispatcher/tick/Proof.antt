@@ -52,7 +52,8 @@ use denote.Triple.Walked.{says, Stays, stay-slice, stay-none, walkOf, AllGo, goe
 use Rattle.answers.specs.declared.Tick.{Tick}
 use Rattle.line.specs.Lines.{tickOf}
 use Rattle.line.specs.declared.Line.{Line}
-use Rattle.dispatcher.specs.Dispatch.{wrongRow, rowOf, dispatchOf, gatheredAt, dispatchedBy}
+use Rattle.dispatcher.specs.Dispatch.{wrongRow, rowOf, dispatchOf}
+use Rattle.dispatcher.specs.ByLine.{gatheredAt, dispatchedBy}
 use Rattle.dispatcher.specs.declared.Dispatcher.{Dispatcher}
 use Rattle.dispatcher.specs.declared.Dispatched.{Dispatched}
 use Rattle.dispatcher.proofs.RowLaws.{noLine, lineAt, rowAt, gatheredTo, row-step, gather-step, gather-start, row-start, row-end, dispatch-end}
