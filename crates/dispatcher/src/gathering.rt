@@ -68,18 +68,25 @@ impl Dispatcher {
         Waiting::nothing()
     }
 
-    // With what the tick of the line at place i told. Where that is nothing, no record is copied.
+    // With what the tick of the line at place i told.
+    fn noted(self, i: usize, tick: Tick) -> Dispatcher
+        ensures { λ r. ⌜ r ≡ gatheredAt self i tick ⌝ }
+    {
+        if i < 64 {
+            let old = self.waiting[i];
+            let mut after = self;
+            after.waiting[i] = old.gathered(tick);
+            return after;
+        }
+        self
+    }
+
+    // The same. Where the tick told nothing, the dispatcher comes back as it is, and is not copied.
     pub(crate) fn gathered(self, i: usize, tick: Tick) -> Dispatcher
         ensures { λ r. ⌜ r ≡ gatheredAt self i tick ⌝ }
     {
         if has_news(tick) {
-            if i < 64 {
-                let old = self.waiting[i];
-                let mut after = self;
-                after.waiting[i] = old.gathered(tick);
-                return after;
-            }
-            return self;
+            return self.noted(i, tick);
         }
         self
     }

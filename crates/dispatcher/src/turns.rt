@@ -1,6 +1,6 @@
 // Whose turn it is: the first line with something to tell, going round.
 ghost use mathlib.Core.Path.{_≡_};
-ghost use Prim.Native.Nat.{_-_, _≤_};
+ghost use Prim.Native.Nat.{_-_, min};
 ghost use Rattle.dispatcher.specs.Dispatch.{tells, waitsIn, firstFrom, turnOf, placeAfter};
 use super::Dispatcher;
 use super::Turn;
@@ -17,14 +17,22 @@ pub(crate) fn place_after(n: usize, i: usize) -> usize
     0
 }
 
+// The places before n at which something may wait.
+fn within(n: usize) -> usize
+    ensures { λ r. ⌜ r ≡ min n 64 ⌝ }
+{
+    if n < 64 { n } else { 64 }
+}
+
 impl Dispatcher {
     // The first place from `from` on and before `to` with something to tell.
     fn first_from(self, from: usize, to: usize) -> Turn
         ensures { λ r. ⌜ r ≡ firstFrom (λ i. tells (waitsIn (self .waiting) i)) (to - from) from ⌝ }
     {
+        let end = within(to);
         let mut i = from;
-        while i < to {
-            let w = self.waits_at(i);
+        while i < end {
+            let w = self.waiting[i];
             if w.tells() {
                 return Turn::Of(i);
             }
