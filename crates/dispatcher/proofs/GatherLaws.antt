@@ -8,7 +8,7 @@ use lib.Seq.{set-getD, set-out}
 use Rattle.answers.specs.declared.Tick.{Tick}
 use Rattle.state.specs.Rules.{oneMore}
 use Rattle.dispatcher.specs.Dispatch.{nothing, gathered, waitsIn}
-use Rattle.dispatcher.specs.ByLine.{withWaiting, gatheredAt}
+use Rattle.dispatcher.specs.ByLine.{gatheredAt}
 use Rattle.dispatcher.specs.declared.Waiting.{Waiting}
 use Rattle.dispatcher.specs.declared.Dispatcher.{Dispatcher}
 

@@ -1,7 +1,7 @@
 -- A row of which the first lines are ticked, and what their ticks told.
-use mathlib.Core.Path.{_≡_, refl, sym, ap, _∙_}
-use mathlib.Core.Bool.{Bool, true, false, cond, not, _&&_, _||_, true≢false}
-use mathlib.Core.List.{List, [], _∷_, map}
+use mathlib.Core.Path.{_≡_, refl, sym, ap}
+use mathlib.Core.Bool.{Bool, true, false, cond, _||_, true≢false}
+use mathlib.Core.List.{List, [], _∷_}
 use Prim.Native.Nat.{ℕ, zero, suc, _<_}
 use native.Mathlib.Nat.{not-suc-le-zero, le-of-suc-le-suc}
 use lib.Dec.{ltb, eqb}
@@ -13,7 +13,6 @@ use Rattle.dispatcher.specs.Dispatch.{gathered, gatherAll, waitsIn, badR
 use Rattle.dispatcher.specs.ByLine.{withWaiting, gatheredAt, dispatchedBy}
 use Rattle.dispatcher.specs.declared.Waiting.{Waiting}
 use Rattle.dispatcher.specs.declared.Dispatcher.{Dispatcher}
-use Rattle.dispatcher.specs.declared.Dispatched.{Dispatched}
 use Rattle.dispatcher.specs.declared.Reply.the-variants.{Sends, Refuses}
 use Rattle.descriptor.specs.declared.Refusal.the-variants.{Row}
 
