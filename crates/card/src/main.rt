@@ -2,7 +2,6 @@
 // that their dispatcher sends.
 mod cards;
 mod describing;
-mod input;
 mod output;
 mod phases;
 mod reader;
@@ -10,21 +9,21 @@ mod runs;
 mod ticks;
 
 use cards::Card;
-use input::Input;
-use input::Line;
+use lines::Input;
+use lines::Span;
 use printing::Answer;
 use reader::Reader;
 
 // The bytes of a line. One that is too long counts as empty.
-fn text_of(inp: &[u8], line: Line) -> &[u8] {
+fn text_of(inp: &[u8], line: Span) -> &[u8] {
     if line.whole {
-        return input::text(inp, line);
+        return lines::text(inp, line);
     }
     &inp[0..0]
 }
 
 // Reads a line of the script, if there is one, where the row has n lines.
-fn read_line(reader: Reader, inp: &[u8], line: Line, n: usize) -> Reader {
+fn read_line(reader: Reader, inp: &[u8], line: Span, n: usize) -> Reader {
     if line.some {
         return reader.read(text_of(inp, line), n);
     }
@@ -32,7 +31,7 @@ fn read_line(reader: Reader, inp: &[u8], line: Line, n: usize) -> Reader {
 }
 
 // Obeys a line that was read. Where there is none, all output is written before more is read.
-fn react(card: Card, reader: Reader, inp: &[u8], line: Line, out: &mut [u8]) -> Card {
+fn react(card: Card, reader: Reader, inp: &[u8], line: Span, out: &mut [u8]) -> Card {
     if line.some {
         let command = reader.command;
         let phases = reader.phases;

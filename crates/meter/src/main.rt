@@ -6,17 +6,21 @@ mod phases;
 mod reader;
 
 use gateway::Gateway;
-use input::Input;
-use input::Span;
+use lines::Input;
+use lines::Span;
 use printing::Answer;
 use reader::Reader;
 
-// Reads the line of the script that stands at a span of the buffer, if there is one.
+// Reads the line of the script that stands at a span of the buffer, if there is one. A line that is too long is read as
+// an empty one.
 fn read_line(reader: Reader, inp: &[u8], span: Span, made: bool) -> Reader {
-    if span.some {
-        return reader.read(input::text(inp, span), made);
+    if !span.some {
+        return reader;
     }
-    reader
+    if span.whole {
+        return reader.read(lines::text(inp, span), made);
+    }
+    reader.read(b"", made)
 }
 
 // Obeys a line that was read. Where there is none, all output is written before more is read.
@@ -59,7 +63,7 @@ fn serve(inp: &mut [u8], out: &mut [u8]) {
         }
         reader = read_line(reader, inp, span, gateway.made);
         gateway = react(gateway, reader, span.some, out);
-        input = input.onward(inp, span);
+        input = input::onward(input, inp, span);
     }
 }
 

@@ -1,19 +1,18 @@
 // Reads texts of controllers from standard input, one a line, and prints what each reads as.
-mod input;
 mod output;
 mod readings;
 
-use input::Input;
-use input::Line;
+use lines::Input;
+use lines::Span;
 
 // Puts what a line reads as. Where there is no line yet, all output is written before more is read.
-fn answer(inp: &[u8], line: Line, out: &mut [u8], at: usize) -> usize {
+fn answer(inp: &[u8], line: Span, out: &mut [u8], at: usize) -> usize {
     if !line.some {
         output::flush(out, at);
         return 0;
     }
     if line.whole {
-        return readings::put_reading(out, at, input::text(inp, line));
+        return readings::put_reading(out, at, lines::text(inp, line));
     }
     output::put_text(out, at, b"too long\n")
 }

@@ -1,0 +1,4 @@
+-- The laws of parts of a buffer, of line feeds in them, and of moving them.
+pub mod PartLaws
+pub mod FeedLaws
+pub mod RoomLaws

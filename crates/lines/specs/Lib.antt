@@ -1,0 +1,5 @@
+-- The definitions that the contracts cite, lowest first.
+pub mod Spans
+pub mod Rooms
+pub mod Reads
+pub mod Examples
