@@ -1,13 +1,12 @@
 // What each command does to the card, and what is printed of it.
 use super::describing::describe_from;
-use super::describing::describe_with;
 use super::output;
-use super::phases::Phases;
 use super::runs;
 use super::ticks::Progress;
 use line::Answered;
 use line::Line;
 use line::Verdict;
+use phase_lines::Phases;
 use printing::Answer;
 use script::CardCommand;
 use script::Command;
@@ -109,7 +108,7 @@ impl Card {
                 tariff,
                 phases: _,
                 burst,
-            } => self.answered(place, describe_with(line, tariff, burst, phases), out),
+            } => self.answered(place, phases.describe(line, tariff, burst), out),
             Command::OnHook(event) => self.answered(place, line.hook(event), out),
             Command::Bad => self.with_answer(Answer::Bad, out),
             Command::Configure {

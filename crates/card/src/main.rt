@@ -3,7 +3,6 @@
 mod cards;
 mod describing;
 mod output;
-mod phases;
 mod reader;
 mod runs;
 mod ticks;

@@ -1,7 +1,7 @@
 // What each line of a script asks: a command, or one of the phase lines that a descriptor waits for.
-use super::phases::Phases;
 use descriptor::BurstPart;
 use descriptor::TariffPart;
+use phase_lines::Phases;
 use script::CardCommand;
 use script::Command;
 

@@ -1,14 +1,11 @@
 // What each command does to the line, and what is printed of it.
 use super::output;
-use super::phases::Phases;
-use super::phases::part;
 use answers::Front;
 use answers::Tick;
-use descriptor::BurstPart;
-use descriptor::TariffPart;
 use line::Answered;
 use line::Line;
 use line::Verdict;
+use phase_lines::Phases;
 use printing::Answer;
 use script::Command;
 use state::Moved;
@@ -49,27 +46,6 @@ fn configure(line: Line, pulse: u32, gap: u32, clock: u32) -> Answered {
     } else {
         Answered { line, verdict }
     }
-}
-
-// A descriptor, with the first k phases of its lists.
-fn describe(line: Line, tariff: TariffPart, burst: BurstPart, lists: &[u32], k: usize) -> Answered {
-    line.describe(
-        tariff,
-        part(lists, 0, k),
-        part(lists, 9, k),
-        part(lists, 18, k),
-        part(lists, 27, k),
-        part(lists, 36, k),
-        part(lists, 45, k),
-        part(lists, 54, k),
-        burst,
-    )
-}
-
-// A descriptor, with the phases that were read.
-fn describe_with(line: Line, tariff: TariffPart, burst: BurstPart, phases: Phases) -> Answered {
-    let lists = phases.lists;
-    describe(line, tariff, burst, &lists, phases.taken)
 }
 
 fn is_front(front: Front) -> bool {
@@ -174,7 +150,7 @@ impl Gateway {
                 tariff,
                 phases: _,
                 burst,
-            } => self.answered(describe_with(line, tariff, burst, phases), out),
+            } => self.answered(phases.describe(line, tariff, burst), out),
             Command::OnHook(event) => self.answered(line.hook(event), out),
             Command::Run(ticks) => run(line, ticks, out, self.held),
         }

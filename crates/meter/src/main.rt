@@ -2,7 +2,6 @@
 mod gateway;
 mod input;
 mod output;
-mod phases;
 mod reader;
 
 use gateway::Gateway;

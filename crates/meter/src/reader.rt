@@ -1,7 +1,7 @@
 // What each line of a script asks: a command, or one of the phase lines that a command waits for.
-use super::phases::Phases;
 use descriptor::BurstPart;
 use descriptor::TariffPart;
+use phase_lines::Phases;
 use script::Command;
 
 // A reader: the command that is to be obeyed, which is `run 0` while there is none; and, while a descriptor waits for
