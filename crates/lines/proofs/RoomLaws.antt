@@ -1,18 +1,20 @@
 -- Bytes moved to the front one by one, and the room behind them.
 use mathlib.Core.Bool.{Bool, true, false}
 use mathlib.Core.Path.{_≡_, refl, sym, ap, subst, _∙_}
-use mathlib.Core.List.{List, [], _∷_, _++_, append-nil}
-use Prim.Native.Nat.{ℕ, suc, _+_, _-_, _≤_, _<_, min}
+use mathlib.Core.List.{List, [], _∷_, _++_}
+use Prim.Native.Nat.{ℕ, suc, _+_, _-_, _/_, _≤_, _<_, min}
 use native.Mathlib.Nat.{zero-add}
 use native.Mathlib.Numerals.{add-one}
 use native.Mathlib.Omega.{arith}
-use lib.ListN.{length, getD, take, drop, set, length-drop, drop-of-length-le}
+use borrow.Author.Tests.{le-leb, lt-leb, lt-ltb, le-ltb}
+use lib.ListN.{length, getD, take, drop, set, length-drop}
 use lib.Seq.{take-nil, drop-nil, take-all, length-take-le, getD-append-add, getD-drop, paste-suc}
 use Rattle.lines.specs.declared.Input.{Input}
-use Rattle.lines.specs.Spans.{part, pastOf}
-use Rattle.lines.specs.Rooms.{fronted, roomOf, fedOf}
+use Rattle.lines.specs.Spans.{part, atFront, held, pastOf}
+use Rattle.lines.specs.Squeezing.{squeezed}
+use Rattle.lines.specs.Rooms.{isFull, fronted, roomOf, fedOf}
 use Rattle.lines.specs.Reads.{More, Onward}
-use Rattle.lines.proofs.PartLaws.{length-part}
+use Rattle.lines.proofs.PartLaws.{length-part, part-clip}
 
 -- one more byte is moved: it is read where it stood at first, since no place past it was written
 pub move-one : (d : List ℕ) (s i : ℕ) → s + i < length d
@@ -32,14 +34,48 @@ move-one d s i h =
     rw (byte, add-one) (rw (zi, zn) at (paste-suc d 0 (drop s d) i 0 (omega arith) room))
 
 -- a part that fills the buffer is the buffer
-pub full : (s e : ℕ) (l : List ℕ) → length l ≤ length (part s e l) → l ≡ part s e l ++ drop (length (part s e l)) l
+pub full : (s e : ℕ) (l : List ℕ) → length l ≤ length (part s e l) → part s e l ≡ l
 unfolding part
 full s e [] h = rw (drop-nil s, take-nil (e - s))
 full s e (x ∷ m) h =
     let n = length-part s e (x ∷ m) in
     let none : s ≡ 0 = omega arith in
-    let all : part s e (x ∷ m) ≡ x ∷ m = rw none (take-all (e - 0) (x ∷ m) (omega arith)) in
-    rw (drop-of-length-le (x ∷ m) h, append-nil (part s e (x ∷ m))) (sym all)
+    rw none (take-all (e - 0) (x ∷ m) (omega arith))
+
+-- room is made: what is counted, moved and squeezed is what is kept
+module _ (buf : List ℕ) (i : Input) (n : ℕ) (counted : n ≡ min (i .end) (length buf) - i .start) where
+  size : n ≡ length (held buf i)
+  size = counted ∙ sym (length-part (i .start) (i .end) buf)
+
+  abbrev Room : List ℕ → Input → Type 0
+  Room after r = (r ≡ roomOf buf i) × (after ≡ fronted buf i)
+
+  -- the buffer is not full
+  pub room-free : {after : List ℕ} {r : Input} → n < length buf → r ≡ atFront n (i .dropped) → after ≡ take n (drop (i .start) buf) ++ drop n buf → Room after r
+  room-free h e f =
+      let short = lt-leb (length buf) (length (held buf i)) (omega (arith, size)) in
+      let moved : take n (drop (i .start) buf) ≡ held buf i = ap (λ (k : ℕ). take k (drop (i .start) buf)) counted ∙ part-clip (i .start) (i .end) buf in
+      (e ∙ rw (short, size), f ∙ rw (short, moved, size))
+
+  module _ (h : length buf ≤ n) where
+    fills : isFull buf i ≡ true
+    fills = le-leb (length buf) (length (held buf i)) (omega (arith, size, h))
+
+    all : held buf i ≡ buf
+    all = full (i .start) (i .end) buf (omega (arith, size, h))
+
+    module _ {k : ℕ} {after : List ℕ} {r : Input} (e : k ≡ length (squeezed buf)) (f : after ≡ squeezed buf ++ drop k buf) where
+      -- it is full, and over half of it says something
+      pub room-long : length buf / 2 < k → r ≡ atFront 0 true → Room after r
+      room-long l g =
+          let long = lt-ltb (length buf / 2) (length (squeezed buf)) (rw e at l) in
+          (g ∙ rw (fills, all, long), f ∙ rw (fills, all, e))
+
+      -- it is full, and half of it or less does
+      pub room-squeezed : k ≤ length buf / 2 → r ≡ atFront k (i .dropped) → Room after r
+      room-squeezed l g =
+          let short = le-ltb (length buf / 2) (length (squeezed buf)) (rw e at l) in
+          (g ∙ rw (fills, all, short, e), f ∙ rw (fills, all, e))
 
 -- what came is the difference of the ends
 pub refed : (i : Input) (size got : ℕ) → fedOf i size got ≡ fedOf i size (fedOf i size got .end - i .end)

@@ -1,10 +1,12 @@
 -- A buffer of eight bytes, into which `ab`, a line feed and `c` were read.
 use mathlib.Core.Path.{_≡_, refl}
 use mathlib.Core.Bool.{true, false}
-use mathlib.Core.List.{List, [], _∷_}
+use mathlib.Core.List.{List, [], _∷_, _++_}
 use Prim.Native.Nat.{ℕ}
+use lib.ListN.{replicate}
 use Rattle.lines.specs.declared.Input.{Input}
 use Rattle.lines.specs.Spans.{part, atFront, begun, nextOf, overOf, pastOf}
+use Rattle.lines.specs.Squeezing.{squeezedFrom, squeezed}
 use Rattle.lines.specs.Rooms.{fronted, roomOf, fedOf}
 
 abbrev buf : List ℕ
@@ -43,9 +45,26 @@ last = refl
 
 -- a buffer that is full of one line is emptied, and the rest of the line is not whole
 pub dropped : roomOf buf (atFront 8 false) ≡ atFront 0 true
-unfolding part
+unfolding part squeezedFrom
 dropped = refl
 
 pub rest : nextOf buf (fedOf (atFront 0 true) 8 4) ≡ record { some = true; whole = false; from = 0; to = 2 }
 unfolding part
 rest = refl
+
+-- of `rp`, five blanks and `5` three bytes and one blank stay: the line is not too long for the buffer
+abbrev blanks : List ℕ
+blanks = 114 ∷ 112 ∷ 32 ∷ 32 ∷ 32 ∷ 32 ∷ 32 ∷ 53 ∷ []
+
+pub squeezed-front : fronted blanks (atFront 8 false) ≡ 114 ∷ 112 ∷ 32 ∷ 53 ∷ 32 ∷ 32 ∷ 32 ∷ 53 ∷ []
+unfolding part squeezedFrom
+squeezed-front = refl
+
+pub squeezed-room : roomOf blanks (atFront 8 false) ≡ atFront 4 false
+unfolding part squeezedFrom
+squeezed-room = refl
+
+-- of twenty zeros eleven stay
+pub zeros : squeezed (replicate 20 48 ++ (53 ∷ [])) ≡ replicate 11 48 ++ (53 ∷ [])
+unfolding squeezedFrom
+zeros = refl

@@ -8,12 +8,14 @@ ghost use Rattle.lines.specs.Rooms.{fronted, roomOf, fedOf};
 
 mod buffer;
 mod reading;
+mod squeezing;
 
 use buffer::count;
 use buffer::least;
 use buffer::line_feed;
 use buffer::move_to_front;
 pub use buffer::text;
+use squeezing::squeeze;
 
 // The bytes `start` to `end` of the buffer are read and not yet taken. `dropped` is set within a line that is too long
 // for the buffer, of which the first bytes were dropped, and `came` where the last read brought something.
@@ -24,8 +26,8 @@ pub struct Input {
     pub came: bool,
 }
 
-// A line of the input, without its line feed: whether there is one, whether the buffer holds it whole, its first place,
-// and the place after its last.
+// A line of the input, without its line feed: whether there is one, whether the buffer holds all that it says, its first
+// place, and the place after its last.
 pub struct Span {
     pub some: bool,
     pub whole: bool,
@@ -108,17 +110,23 @@ impl Input {
         }
     }
 
-    // Room for more: what is not yet taken moves to the front. Where it fills the buffer, it is dropped.
+    // Room for more: what is not yet taken moves to the front. Where it fills the buffer, bytes that say nothing are
+    // left out of it, and it is dropped if over half of the buffer is taken still.
     pub fn with_room(self, buf: &mut [u8]) -> Input
         ensures { λ r. ⌜ r ≡ roomOf (now (buf .entry)) self ⌝ }
         ensures { λ _. ⌜ now (buf .exit) ≡ fronted (now (buf .entry)) self ⌝ }
     {
-        let held = count(buf.len(), self.start, self.end);
-        if held >= buf.len() {
+        let size = buf.len();
+        let held = count(size, self.start, self.end);
+        if held < size {
+            move_to_front(buf, self.start, held);
+            return Input::at_front(held, self.dropped);
+        }
+        let kept = squeeze(buf);
+        if size / 2 < kept {
             return Input::at_front(0, true);
         }
-        move_to_front(buf, self.start, held);
-        Input::at_front(held, self.dropped)
+        Input::at_front(kept, self.dropped)
     }
 
     // After a read that brought `got` bytes into a buffer of `size` bytes: none at the end of the input.

@@ -1,6 +1,5 @@
 // Runs a script of metering commands from standard input, and prints what the line answers and tells.
 mod gateway;
-mod input;
 mod output;
 mod reader;
 
@@ -62,7 +61,7 @@ fn serve(inp: &mut [u8], out: &mut [u8]) {
         }
         reader = read_line(reader, inp, span, gateway.made);
         gateway = react(gateway, reader, span.some, out);
-        input = input::onward(input, inp, span);
+        input = input.onward(inp, span);
     }
 }
 
