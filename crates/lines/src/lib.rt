@@ -99,7 +99,7 @@ impl Input {
     }
 
     // Past a line that ends at `to`, and its line feed.
-    pub fn past(self, to: usize) -> Input
+    pub(crate) fn past(self, to: usize) -> Input
         ensures { λ r. ⌜ r ≡ pastOf self to ⌝ }
     {
         Input {
@@ -112,7 +112,7 @@ impl Input {
 
     // Room for more: what is not yet taken moves to the front. Where it fills the buffer, bytes that say nothing are
     // left out of it, and it is dropped if over half of the buffer is taken still.
-    pub fn with_room(self, buf: &mut [u8]) -> Input
+    pub(crate) fn with_room(self, buf: &mut [u8]) -> Input
         ensures { λ r. ⌜ r ≡ roomOf (now (buf .entry)) self ⌝ }
         ensures { λ _. ⌜ now (buf .exit) ≡ fronted (now (buf .entry)) self ⌝ }
     {
@@ -130,7 +130,7 @@ impl Input {
     }
 
     // After a read that brought `got` bytes into a buffer of `size` bytes: none at the end of the input.
-    pub fn fed(self, size: usize, got: usize) -> Input
+    pub(crate) fn fed(self, size: usize, got: usize) -> Input
         ensures { λ r. ⌜ r ≡ fedOf self size got ⌝ }
     {
         let room = count(size, self.end, size);

@@ -22,7 +22,7 @@ fn read_once(buf: &mut [u8], end: usize) -> usize
 
 impl Input {
     // After one more read.
-    pub fn more(self, buf: &mut [u8]) -> Input
+    fn more(self, buf: &mut [u8]) -> Input
         ensures { λ r. ⌜ More (now (buf .entry)) self (now (buf .exit)) r ⌝ }
     {
         let room = self.with_room(buf);
