@@ -1,16 +1,16 @@
 -- Squeezing byte by byte, in place: what is kept stands at the front, and the bytes behind it are as they were.
 use mathlib.Core.Bool.{Bool, true, false, not}
-use mathlib.Core.Path.{_≡_, refl, sym, ap, subst, _∙_}
+use mathlib.Core.Path.{_≡_, refl, sym, ap, _∙_}
 use mathlib.Core.List.{List, [], _∷_, _++_, append-nil}
 use Prim.Native.Nat.{ℕ, suc, _+_, _-_, _≤_, _<_}
 use native.Mathlib.Numerals.{add-one}
 use native.Mathlib.Omega.{arith}
-use lib.ListN.{length, getD, take, drop, set, length-set, length-append, drop-of-length-le}
+use lib.ListN.{length, getD, drop, set, length-set, length-append, drop-of-length-le}
 use lib.Seq.{drop-cons, append-snoc, getD-append-add, getD-drop, set-at}
 use Rattle.lines.specs.declared.squeezing.Run.{Run}
 use Rattle.lines.specs.Squeezing.{noRun, runAfter, isIdle, squeezedFrom, squeezed}
 
--- the first j bytes of d are squeezed into the first i of buf, where they end so
+-- the first j bytes of d are squeezed into the first i of buf, and run says how they end
 pub record Squeezing (d : List ℕ) (run : Run) (i j : ℕ) (buf : List ℕ) : Type 0 where
   pub kept : List ℕ
   pub size : length kept ≡ i
