@@ -5,10 +5,11 @@ use mathlib.Core.List.{List, [], _∷_, _++_, append-nil}
 use Prim.Native.Nat.{ℕ, suc, _+_, _-_, _≤_, _<_}
 use native.Mathlib.Numerals.{add-one}
 use native.Mathlib.Omega.{arith}
+use borrow.Author.Tests.{not-true, not-false}
 use lib.ListN.{length, getD, drop, set, length-set, length-append, drop-of-length-le}
 use lib.Seq.{drop-cons, append-snoc, getD-append-add, getD-drop, set-at}
 use Rattle.lines.specs.declared.squeezing.Run.{Run}
-use Rattle.lines.specs.Squeezing.{noRun, runAfter, isIdle, squeezedFrom, squeezed}
+use Rattle.lines.specs.Squeezing.{noRun, runAfter, isRedundant, squeezedFrom, squeezed}
 
 -- the first j bytes of d are squeezed into the first i of buf, and run says how they end
 pub record Squeezing (d : List ℕ) (run : Run) (i j : ℕ) (buf : List ℕ) : Type 0 where
@@ -19,10 +20,6 @@ pub record Squeezing (d : List ℕ) (run : Run) (i j : ℕ) (buf : List ℕ) : T
   pub long : length buf ≡ length d
   pub front : buf ≡ kept ++ drop i d
   pub left : kept ++ squeezedFrom run (drop j d) ≡ squeezed d
-
-flip : (b v : Bool) → not b ≡ v → b ≡ not v
-flip true v e = ap not e
-flip false v e = ap not e
 
 pub start : (d : List ℕ) → Squeezing d noRun 0 0 d
 start d =
@@ -54,7 +51,7 @@ module _ (d : List ℕ) (run : Run) (i j : ℕ) (buf : List ℕ) (s : Squeezing 
       sym (append-nil (s .kept)) ∙ ap (λ (l : List ℕ). s .kept ++ squeezedFrom run l) (sym none) ∙ s .left
 
   -- a byte that says nothing is left out
-  pub skip : j < length d → isIdle run (getD buf j 0) ≡ true → Squeezing d (runAfter run (getD buf j 0)) i (j + 1) buf
+  pub skip : j < length d → isRedundant run (getD buf j 0) ≡ true → Squeezing d (runAfter run (getD buf j 0)) i (j + 1) buf
   unfolding squeezedFrom
   skip h e =
       let next = drop-cons d j 0 h in
@@ -70,7 +67,7 @@ module _ (d : List ℕ) (run : Run) (i j : ℕ) (buf : List ℕ) (s : Squeezing 
       }
 
   -- any other is kept
-  pub keep : j < length d → isIdle run (getD buf j 0) ≡ false
+  pub keep : j < length d → isRedundant run (getD buf j 0) ≡ false
       → Squeezing d (runAfter run (getD buf j 0)) (i + 1) (j + 1) (set buf i (getD buf j 0))
   unfolding squeezedFrom
   keep h e =
@@ -91,11 +88,11 @@ module _ (d : List ℕ) (run : Run) (i j : ℕ) (buf : List ℕ) (s : Squeezing 
         left = append-snoc p b _ ∙ rw (on, unread) (rw (next, rw unread at e) at (s .left));
       }
 
-  module _ (idle : Bool) (run′ : Run) (i′ : ℕ) (buf′ : List ℕ) (h : j < length d) (e : idle ≡ isIdle run (getD buf j 0)) (r : run′ ≡ runAfter run (getD buf j 0)) where
+  module _ (redundant : Bool) (run′ : Run) (i′ : ℕ) (buf′ : List ℕ) (h : j < length d) (e : redundant ≡ isRedundant run (getD buf j 0)) (r : run′ ≡ runAfter run (getD buf j 0)) where
     -- a turn of the loop that keeps the byte
-    pub kept-turn : not idle ≡ true → buf′ ≡ set buf i (getD buf j 0) → i′ ≡ i + 1 → Squeezing d run′ i′ (j + 1) buf′
-    kept-turn n b k = rw (r, b, k) (keep h (sym e ∙ flip idle true n))
+    pub kept-turn : not redundant ≡ true → buf′ ≡ set buf i (getD buf j 0) → i′ ≡ i + 1 → Squeezing d run′ i′ (j + 1) buf′
+    kept-turn n b k = rw (r, b, k) (keep h (sym e ∙ not-true redundant n))
 
     -- and one that leaves it out
-    pub skipped-turn : not idle ≡ false → buf′ ≡ buf → i′ ≡ i → Squeezing d run′ i′ (j + 1) buf′
-    skipped-turn n b k = rw (r, b, k) (skip h (sym e ∙ flip idle false n))
+    pub skipped-turn : not redundant ≡ false → buf′ ≡ buf → i′ ≡ i → Squeezing d run′ i′ (j + 1) buf′
+    skipped-turn n b k = rw (r, b, k) (skip h (sym e ∙ not-false redundant n))

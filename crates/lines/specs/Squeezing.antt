@@ -21,12 +21,12 @@ abbrev pub runAfter : Run → ℕ → Run
 runAfter r b = record { blank = isBlank b; zeros = cond (isZero b) (min (r .zeros + 1) 11) 0 }
 
 -- whether one more byte says nothing
-abbrev pub isIdle : Run → ℕ → Bool
-isIdle r b = (isBlank b && r .blank) || (isZero b && leb 11 (r .zeros))
+abbrev pub isRedundant : Run → ℕ → Bool
+isRedundant r b = (isBlank b && r .blank) || (isZero b && leb 11 (r .zeros))
 
 unfoldable pub squeezedFrom : Run → List ℕ → List ℕ
 squeezedFrom r [] = []
-squeezedFrom r (b ∷ l) = let rest = squeezedFrom (runAfter r b) l in cond (isIdle r b) rest (b ∷ rest)
+squeezedFrom r (b ∷ l) = let rest = squeezedFrom (runAfter r b) l in cond (isRedundant r b) rest (b ∷ rest)
 
 abbrev pub squeezed : List ℕ → List ℕ
 squeezed l = squeezedFrom noRun l

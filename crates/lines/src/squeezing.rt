@@ -4,7 +4,7 @@ ghost use mathlib.Core.Bool.{cond};
 ghost use mathlib.Core.List.{_++_};
 ghost use Prim.Native.Nat.{_+_, min};
 ghost use lib.ListN.{length, drop};
-ghost use Rattle.lines.specs.Squeezing.{isZero, noRun, runAfter, isIdle, squeezed};
+ghost use Rattle.lines.specs.Squeezing.{isZero, noRun, runAfter, isRedundant, squeezed};
 
 // How the bytes so far end: whether with a blank, and with how many zeros, eleven at most.
 pub struct Run {
@@ -34,8 +34,8 @@ impl Run {
     }
 
     // Whether byte b says nothing: a blank after a blank, or a zero after eleven zeros.
-    fn is_idle(self, b: u8) -> bool
-        ensures { λ r. ⌜ r ≡ isIdle self b ⌝ }
+    fn is_redundant(self, b: u8) -> bool
+        ensures { λ r. ⌜ r ≡ isRedundant self b ⌝ }
     {
         ((b == 32) & self.blank) | ((b == 48) & (11 <= self.zeros))
     }
@@ -61,7 +61,7 @@ pub(crate) fn squeeze(buf: &mut [u8]) -> usize
     let mut j: usize = 0;
     while j < buf.len() {
         let b = buf[j];
-        if !run.is_idle(b) {
+        if !run.is_redundant(b) {
             buf[i] = b;
             i += 1;
         }

@@ -23,8 +23,8 @@ loop-holds c = rw (c .none .ensures) (start (c .before .before .args .buf .now))
 slice-read-b : tie.Need-slice-read-b Inv-loop μ-loop
 slice-read-b c = search needs
 
-is-idle-requires : tie.Need-is-idle-requires Inv-loop μ-loop
-is-idle-requires c κs = search needs
+is-redundant-requires : tie.Need-is-redundant-requires Inv-loop μ-loop
+is-redundant-requires c κs = search needs
 
 slice-write-buf : tie.Need-slice-write-buf Inv-loop μ-loop
 slice-write-buf c = search needs
@@ -47,8 +47,8 @@ loop-again c =
     let l = t .before in
     let d = l .before .before .before .args .buf .now in
     ⊎-elim
-    (λ (n, b, i). kept-turn d (l .loop .run) (l .loop .i) (l .loop .j) (l .loop .buf) (l .loop .inv) _ _ _ _ (search needs) (c .before .before .is-idle .ensures) (c .after .ensures) (n .taken) b i)
-    (λ (n, b, i). skipped-turn d (l .loop .run) (l .loop .i) (l .loop .j) (l .loop .buf) (l .loop .inv) _ _ _ _ (search needs) (c .before .before .is-idle .ensures) (c .after .ensures) (n .left) b i)
+    (λ (n, b, i). kept-turn d (l .loop .run) (l .loop .i) (l .loop .j) (l .loop .buf) (l .loop .inv) _ _ _ _ (search needs) (c .before .before .is-redundant .ensures) (c .after .ensures) (n .taken) b i)
+    (λ (n, b, i). skipped-turn d (l .loop .run) (l .loop .i) (l .loop .j) (l .loop .buf) (l .loop .inv) _ _ _ _ (search needs) (c .before .before .is-redundant .ensures) (c .after .ensures) (n .left) b i)
     (c .before .if1 .came)
 
 same-length : tie.Need-same-length Inv-loop μ-loop
@@ -71,7 +71,7 @@ squeeze-spec =
     none-requires
     loop-holds
     slice-read-b
-    is-idle-requires
+    is-redundant-requires
     slice-write-buf
     add-i
     after-requires
