@@ -9,7 +9,7 @@ use Rattle.phase_lists.specs.Lists.{Lists, phasesOf, soundLists}
 use Rattle.descriptor.specs.Names.{TariffPart, NoTariff, KeepTariff, Rate, Em, Phased}
 use Rattle.descriptor.specs.Names.{BurstPart, NoBurst, KeepBurst, Start, Ruling, Allowed, TurnedDown, Refusal}
 use Rattle.descriptor.specs.Names.{Configuration, Period, NoEndlessEm, Interval, PhaseLists, Phase}
-use Rattle.descriptor.specs.Names.{Burst, BurstRuns, Grammar, Content, Row}
+use Rattle.descriptor.specs.Names.{Burst, BurstRuns, Grammar, Content, Row, Place}
 
 -- the paper's number of each cause
 abbrev pub refusalNumber : Refusal → ℕ
@@ -24,6 +24,7 @@ refusalNumber BurstRuns = 8
 refusalNumber Grammar = 12
 refusalNumber Content = 13
 refusalNumber Row = 14
+refusalNumber Place = 15
 
 -- a cause to refuse a call, and whether it applies
 pub data Cause : Type 0 where

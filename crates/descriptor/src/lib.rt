@@ -43,6 +43,7 @@ pub enum Refusal {
     Grammar,
     Content,
     Row,
+    Place,
 }
 
 // What the table of refusals makes of a call.

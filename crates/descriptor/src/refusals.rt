@@ -29,6 +29,7 @@ impl Refusal {
             Refusal::Grammar => 12,
             Refusal::Content => 13,
             Refusal::Row => 14,
+            Refusal::Place => 15,
         }
     }
 }

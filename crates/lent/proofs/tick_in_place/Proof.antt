@@ -3,7 +3,7 @@
 -- says busy, the line is copied and handed to `moved`. Either way the state of the answer is stored into its field, and
 -- `ends` closes the borrow and returns.
 use mathlib.Core.Path.{_≡_, refl, sym, ap}
-use Prim.Native.Nat.{ℕ, _<_, _^_}
+use Prim.Native.Nat.{ℕ}
 use mathlib.Core.Bool.{Bool, true, false, not}
 use mathlib.Core.List.{[], _∷_, List}
 use lib.Dec.{T}
@@ -44,13 +44,13 @@ use denote.Triple.Clauses.{ensured, lasts}
 use denote.Triple.Walked.{says, Stays, stay-ref, walkOf, AllGo, goes-ref, Walks, ends-at, walked, walk-meets}
 use Rattle.answers.specs.declared.Tick.{Tick}
 use Rattle.state.specs.States.{quietOf, quickOf}
-use Rattle.state.specs.declared.State.{State}
 use Rattle.state.specs.declared.Moved.{Moved}
 use Rattle.state.specs.declared.Quick.{Quick}
 use Rattle.line.specs.Lines.{withState, moveOf, tickOf}
 use Rattle.line.specs.declared.Line.{Line}
 use Rattle.ticking.proofs.QuietTicks.{quiet-moves}
 use Rattle.lent.proofs.Answer.{Told, answers}
+use Rattle.lent.proofs.Values.{line-val, state-val, IsLine, IsState, pulse-fits, spacing-fits, state-of, with-state-is}
 use Rattle.line.proofs.Line as L
 use Rattle.line.proofs.Line.Laws as L′
 use Rattle.state.proofs.State as S
@@ -79,12 +79,6 @@ abbrev stayed : Stays (self.ended .signature .params) (self.ended .kept)
 stayed = (stay-ref (0 ∷ []) tt (plain (λ _. L.the-row)), tt)
 
 -- ---- machine values, and what whoever holds a whole knows of its parts
-abbrev line-val : Line → Val
-line-val = LL.val L.the-type L′.the-laws
-
-abbrev state-val : State → Val
-state-val = LL.val S.the-type S′.the-laws
-
 abbrev tick-val : Tick → Val
 tick-val = LL.val K.the-type K′.the-laws
 
@@ -94,33 +88,17 @@ moved-val = LL.val N.the-type N′.the-laws
 abbrev quick-val : Quick → Val
 quick-val = LL.val Q.the-type Q′.the-laws
 
-abbrev IsLine : Line → Type 0
-IsLine h = Is L.the-row h (line-val h ∷ [])
-
 abbrev IsMoved : Moved → Type 0
 IsMoved m = Is N.the-row m (moved-val m ∷ [])
-
-pulse-fits : (h : Line) → IsLine h → h .pulse < 2 ^ 32
-pulse-fits h is = LL.owed L.the-type L′.the-laws h _ is .0 .1
-
-spacing-fits : (h : Line) → IsLine h → h .spacing < 2 ^ 32
-spacing-fits h is = LL.owed L.the-type L′.the-laws h _ is .1 .0 .1
-
-state-of : (h : Line) → IsLine h → Is S.the-row (h .state) (state-val (h .state) ∷ [])
-state-of h is = LL.owed L.the-type L′.the-laws h _ is .1 .1 .1 .0
 
 moved-of : (q : Quick) → Is Q.the-row q (quick-val q ∷ []) → IsMoved (q .moved)
 moved-of q is = LL.owed Q.the-type Q′.the-laws q _ is .1 .0
 
-moved-state : (m : Moved) → IsMoved m → Is S.the-row (m .state) (state-val (m .state) ∷ [])
+moved-state : (m : Moved) → IsMoved m → IsState (m .state)
 moved-state m is = LL.owed N.the-type N′.the-laws m _ is .0
 
 moved-tick : (m : Moved) → IsMoved m → Is K.the-row (m .tick) (tick-val (m .tick) ∷ [])
 moved-tick m is = LL.owed N.the-type N′.the-laws m _ is .1 .0
-
--- a line at another state is a line
-with-state-is : (h : Line) (s : State) → IsLine h → Is S.the-row s (state-val s ∷ []) → IsLine (withState h s)
-with-state-is h s is is′ = let o = LL.owed L.the-type L′.the-laws h _ is in LL.owes L.the-type L′.the-laws (withState h s) (o .0, (o .1 .0, (o .1 .1 .0, (is′, o .1 .1 .1 .1))))
 
 off : (z : Bool) → T (not z) → z ≡ false
 off true a = absurd a

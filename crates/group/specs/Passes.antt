@@ -1,0 +1,138 @@
+-- A group's rate by two passes over its places: what the code computes.
+use mathlib.Core.Bool.{Bool, true, false, cond}
+use mathlib.Core.List.{List, [], _∷_}
+use mathlib.Core.Logic.{_⊎_}
+use mathlib.Core.Path.{_≡_}
+use Prim.Native.Nat.{ℕ, _*_, _/_, _%_, _^_, _<_}
+use lib.Bits.{bitOr}
+use lib.Dec.{ltb, eqb}
+use lib.ListN.{length, getD, set}
+use Rattle.tariff.specs.Tariffs.{isEndless}
+use Rattle.phase_lists.specs.Tables.{noTable}
+use Rattle.descriptor.specs.Rulings.{descriptorRuling}
+use Rattle.descriptor.specs.declared.Ruling.{Ruling}
+use Rattle.descriptor.specs.declared.Ruling.the-variants.{Allowed, TurnedDown}
+use Rattle.descriptor.specs.declared.TariffPart.the-variants.{Rate}
+use Rattle.descriptor.specs.declared.BurstPart.the-variants.{Keep}
+use Rattle.descriptor.specs.declared.Refusal.{Refusal}
+use Rattle.descriptor.specs.declared.Refusal.the-variants.{Row, Place}
+use Rattle.burst.specs.Bursts.{isRunning}
+use Rattle.state.specs.Rules.{oneMore}
+use Rattle.state.specs.States.{withRate}
+use Rattle.state.specs.declared.State.{State}
+use Rattle.line.specs.Lines.{blankLine, withState}
+use Rattle.line.specs.declared.Line.{Line}
+use Rattle.line.specs.declared.Verdict.{Verdict}
+use Rattle.line.specs.declared.Verdict.the-variants.{Accepted, Refused}
+use Rattle.dispatcher.specs.Dispatch.{badRow}
+use Rattle.group.specs.Groups.{orElse, ifAccepted}
+use Rattle.group.specs.declared.Pass.{Pass}
+use Rattle.group.specs.declared.Passed.{Passed}
+use Rattle.group.specs.declared.Rated.{Rated}
+
+-- ---- places marked in a word, a bit each
+
+abbrev pub isMarked : ℕ → ℕ → Bool
+isMarked marks p = cond (ltb p 64) (eqb (marks / 2 ^ p % 2) 1) false
+
+abbrev pub withMark : ℕ → ℕ → ℕ
+withMark marks p = cond (ltb p 64) (bitOr marks (1 * 2 ^ p % 2 ^ 64)) marks
+
+-- ---- one line
+
+-- what a line would answer to the rate command
+abbrev pub ruledAnswer : Ruling → Verdict
+ruledAnswer Allowed = Accepted 0
+ruledAnswer (TurnedDown why) = Refused why
+
+abbrev pub askedOf : ℕ → State → ℕ → Verdict
+askedOf S s P = ruledAnswer (descriptorRuling S (isEndless (s .tariff)) (isRunning (s .burst)) (Rate P) noTable Keep)
+
+-- ---- a pass
+
+abbrev pub outsideOf : Pass → Refusal → Pass
+outsideOf s why =
+    record { interval = s .interval; limit = 0; rates = s .rates; verdict = Refused why; marks = s .marks; lines = s .lines }
+
+-- over m places in a row of n
+abbrev pub firstOf : ℕ → ℕ → Pass
+firstOf m P = record { interval = P; limit = m; rates = false; verdict = Accepted 0; marks = 0; lines = 0 }
+
+abbrev pub askingOf : ℕ → ℕ → ℕ → Pass
+askingOf n m P = cond (badRow n) (outsideOf (firstOf m P) Row) (firstOf m P)
+
+abbrev pub withLimit : Pass → ℕ → Pass
+withLimit s limit =
+    record { interval = s .interval; limit = limit; rates = s .rates; verdict = s .verdict; marks = s .marks; lines = s .lines }
+
+abbrev pub thatRates : Pass → Pass
+thatRates s =
+    record { interval = s .interval; limit = s .limit; rates = true; verdict = s .verdict; marks = s .marks; lines = s .lines }
+
+abbrev pub ratingOf : Pass → Pass
+ratingOf s = ifAccepted (s .verdict) (thatRates s) (withLimit s 0)
+
+abbrev pub heardOf : Pass → Verdict → Pass
+heardOf s v =
+    record {
+      interval = s .interval;
+      limit = s .limit;
+      rates = s .rates;
+      verdict = orElse (s .verdict) v;
+      marks = s .marks;
+      lines = s .lines;
+    }
+
+abbrev pub countedOf : Pass → ℕ → Pass
+countedOf s p =
+    record {
+      interval = s .interval;
+      limit = s .limit;
+      rates = s .rates;
+      verdict = s .verdict;
+      marks = withMark (s .marks) p;
+      lines = oneMore (s .lines);
+    }
+
+abbrev pub passed : Pass → State → Passed
+passed s t = record { pass = s; state = t }
+
+-- the place p of a row of n, where a line of this spacing and state is
+unfoldable pub stepOf : Pass → ℕ → ℕ → ℕ → State → Passed
+stepOf s n p S t =
+    cond (ltb p n)
+    (cond (s .rates)
+    (cond (isMarked (s .marks) p) (passed s t) (passed (countedOf s p) (withRate t (s .interval))))
+    (passed (heardOf s (askedOf S t (s .interval))) t)) (passed (outsideOf s Place) t)
+
+abbrev pub answerOf : Pass → Rated
+answerOf s = record { verdict = s .verdict; lines = s .lines }
+
+-- ---- the places of a list
+
+-- place p, or place 0 where p is outside the row
+abbrev pub placeIn : ℕ → ℕ → ℕ
+placeIn p n = cond (ltb p n) p 0
+
+abbrev pub lineAt : List Line → ℕ → Line
+lineAt ls i = getD ls i blankLine
+
+-- in a row of n: the pass after place p, and the row
+abbrev pub stepAt : ℕ → Pass → List Line → ℕ → Passed
+stepAt n s ls p = let l = lineAt ls (placeIn p n) in stepOf s n p (l .spacing) (l .state)
+
+abbrev pub rowAt : ℕ → Pass → List Line → ℕ → List Line
+rowAt n s ls p = let k = placeIn p n in set ls k (withState (lineAt ls k) (stepAt n s ls p .state))
+
+-- the pass after the list, and the row: it ends where there is no place any more
+abbrev pub endOf : ℕ → Pass → List Line → List ℕ → Pass
+endOf n s ls [] = s
+endOf n s ls (p ∷ ps) = cond (ltb 0 (s .limit)) (endOf n (stepAt n s ls p .pass) (rowAt n s ls p) ps) s
+
+abbrev pub rowBy : ℕ → Pass → List Line → List ℕ → List Line
+rowBy n s ls [] = ls
+rowBy n s ls (p ∷ ps) = cond (ltb 0 (s .limit)) (rowBy n (stepAt n s ls p .pass) (rowAt n s ls p) ps) ls
+
+-- no place is left, or there are all m places of the list, and a line
+abbrev pub Open : ℕ → ℕ → ℕ → Type 0
+Open limit n m = (limit ≡ 0) ⊎ ((limit ≡ m) × (0 < n))

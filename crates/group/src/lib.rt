@@ -1,0 +1,32 @@
+// A rate command for a group of lines in a row that its caller lends: taken by all of them or by none.
+mod asking;
+mod marks;
+mod passes;
+mod rating;
+
+use line::Verdict;
+pub use rating::rate;
+use state::State;
+
+// What a group's rate is answered, and how many lines took it.
+pub struct Rated {
+    pub verdict: Verdict,
+    pub lines: u32,
+}
+
+// A pass over the places of a list, which asks the line at each, or rates it if its place is not marked yet. `limit` is
+// the number of places: none of them once the group is refused.
+pub struct Pass {
+    pub interval: u32,
+    pub limit: usize,
+    pub rates: bool,
+    pub verdict: Verdict,
+    pub marks: u64,
+    pub lines: u32,
+}
+
+// The pass after a place, and the state of the line there.
+pub struct Passed {
+    pub pass: Pass,
+    pub state: State,
+}
