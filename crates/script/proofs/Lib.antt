@@ -3,5 +3,6 @@ pub mod WordLaws
 pub mod NumberLaws
 pub mod ReadLaws
 mod CardLaws
+mod GroupLaws
 pub mod TextLaws
 pub mod ReadBack

@@ -11,12 +11,13 @@ use Rattle.script.specs.Numbers.{numberOf}
 use Rattle.script.specs.Runs.{endsRun, pastRun, pastBlanks}
 use Rattle.script.specs.Readers.{Parsed, failed, parsed, Reader, after, give, fail, first, rest, valued, noWord, whole}
 use Rattle.script.specs.Commands.{configure, period, describe, hook, run}
-use Rattle.script.specs.Cards.{ofRow, ofPlace, asked, all, isText, placed, atPlace, cardCommand, beginning, pastFirst, cardCommandOf}
+use Rattle.script.specs.Cards.{ofRow, ofPlace, asked, all, isText, placed, atPlace, grouped, group, cardCommand, beginning, pastFirst, cardCommandOf}
 use Rattle.script.specs.declared.Command.{Command}
 use Rattle.script.specs.declared.Command.the-variants.{Bad, Configure, Period, NoPeriod, Describe, OnHook, Run}
+use Rattle.script.specs.declared.Places.{Places}
 use Rattle.script.specs.declared.CardCommand.{CardCommand}
 use Rattle.script.specs.declared.CardCommand.the-variants.{Bad as BadCard, Configure as Add}
-use Rattle.script.specs.declared.CardCommand.the-variants.{On, Audit, Text, Tick}
+use Rattle.script.specs.declared.CardCommand.the-variants.{On, Audit, Text, Tick, Group}
 use Rattle.script.specs.declared.numbers.Number.{Number}
 use Rattle.script.specs.declared.numbers.Number.the-variants.{Value, None}
 use Rattle.printing.specs.Bytes.{bytes}
@@ -29,6 +30,7 @@ fromOf (On place c) = 0
 fromOf (Audit place) = 0
 fromOf (Text place from) = from
 fromOf (Tick t) = 0
+fromOf (Group p) = 0
 
 -- and that of what was read
 abbrev begun : Parsed CardCommand → ℕ
@@ -93,6 +95,14 @@ at-begun from ws = one (numberOf (first ws))
     one (Value place) = placed-begun from place (rest ws)
     one None = omega arith
 
+-- nor has a group
+group-begun : (ws : List (List ℕ)) (n : ℕ) → begun (group ws) ≤ n
+group-begun ws n = one (grouped ws)
+  where
+    one : (p : Parsed (ℕ × Places)) → begun (after p (λ g. give (Group (g .0)))) ≤ n
+    one failed = omega arith
+    one (parsed g vs) = omega arith
+
 line-begun : (from : ℕ) (ws : List (List ℕ)) → begun (cardCommand from ws) ≤ from
 line-begun from ws =
     let w = first ws in
@@ -100,7 +110,8 @@ line-begun from ws =
     let no : begun (fail vs) ≤ from = omega arith in
     either (same w (bytes "cfg")) (asked ofRow configure) _ vs from (asked-begun ofRow row-begun configure vs from)
     (either (same w (bytes "tick")) (asked ofRow run) _ vs from (asked-begun ofRow row-begun run vs from)
-    (either (same w (bytes "at")) (atPlace from) fail vs from (at-begun from vs) no))
+    (either (same w (bytes "at")) (atPlace from) _ vs from (at-begun from vs)
+    (either (same w (bytes "group")) group fail vs from (group-begun vs from) no)))
 
 -- a text begins within its line
 pub text-within : (l : List ℕ) (place from : ℕ) → cardCommandOf l ≡ Text place from → from ≤ length l

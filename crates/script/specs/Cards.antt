@@ -1,17 +1,18 @@
 -- The lines that `card` reads.
-use Prim.Native.Nat.{ℕ, _-_}
+use Prim.Native.Nat.{ℕ, zero, suc, _-_}
 use mathlib.Core.Bool.{Bool, cond}
-use mathlib.Core.List.{List, [], _∷_}
-use lib.ListN.{length, take}
+use mathlib.Core.List.{List, [], _∷_, _++_}
+use lib.ListN.{length, take, replicate}
 use Rattle.script.specs.Words.{same, wordsOf}
 use Rattle.script.specs.Runs.{pastBlanks, pastWord}
-use Rattle.script.specs.Readers.{Reader, parsed, _>>=_, give, word, number, lookup, choice, whole}
+use Rattle.script.specs.Readers.{Reader, parsed, _>>=_, give, word, number, lookup, choice, noWord, whole}
 use Rattle.script.specs.Commands.{configure, period, describe, hook, run}
 use Rattle.script.specs.declared.Command.{Command}
 use Rattle.script.specs.declared.Command.the-variants.{Bad, Configure, Period, NoPeriod, Describe, OnHook, Run}
+use Rattle.script.specs.declared.Places.{Places}
 use Rattle.script.specs.declared.CardCommand.{CardCommand}
 use Rattle.script.specs.declared.CardCommand.the-variants.{Bad as BadCard, Configure as Add}
-use Rattle.script.specs.declared.CardCommand.the-variants.{On, Audit, Text, Tick}
+use Rattle.script.specs.declared.CardCommand.the-variants.{On, Audit, Text, Tick, Group}
 use Rattle.printing.specs.Bytes.{bytes}
 
 -- what a command of `meter` asks of the row: cfg adds a line to it, and run makes ticks of it
@@ -65,9 +66,44 @@ atPlace from = do
   place ← number
   placed from place
 
--- `cfg D G clock`, `tick T`, T as in `run T`, or `at I ..`, where the third word begins at the place `from`
+-- gives a where no word is left, and reads what r does where one is
+abbrev pub unless : {A : Type 0} → A → Reader A → Reader A
+unless a r ws = cond (noWord ws) (give a ws) (r ws)
+
+-- reads at most k numbers, up to the last word
+abbrev pub numbers : ℕ → Reader (List ℕ)
+numbers zero = give []
+numbers (suc k) = unless [] (do
+  n ← number
+  ns ← numbers k
+  give (n ∷ ns))
+
+-- the places of a group, and the rest of the list filled up with 0
+abbrev pub placesOf : List ℕ → Places
+placesOf ps = record { count = length ps; list = ps ++ replicate (64 - length ps) 0 }
+
+-- what follows `group`: P, and none to 64 places
+abbrev pub grouped : Reader (ℕ × Places)
+grouped = do
+  p ← number
+  ps ← numbers 64
+  give (p, placesOf ps)
+
+-- `group P I J ..`
+abbrev pub group : Reader CardCommand
+group = do
+  g ← grouped
+  give (Group (g .0))
+
+-- `cfg D G clock`, `tick T`, T as in `run T`, `at I ..`, where the third word begins at the place `from`, or `group ..`
 abbrev pub cardCommand : ℕ → Reader CardCommand
-cardCommand from = choice (("cfg", asked ofRow configure) ∷ ("tick", asked ofRow run) ∷ ("at", atPlace from) ∷ [])
+cardCommand from =
+    choice
+    (("cfg", asked ofRow configure)
+    ∷ ("tick", asked ofRow run)
+    ∷ ("at", atPlace from)
+    ∷ ("group", group)
+    ∷ [])
 
 -- the place in the line l where the first word of its last bytes m begins
 abbrev pub beginning : List ℕ → List ℕ → ℕ
@@ -80,3 +116,14 @@ pastFirst l = pastWord (pastBlanks l)
 -- the command of a line of a card's script; anything else is bad
 abbrev pub cardCommandOf : List ℕ → CardCommand
 cardCommandOf l = whole BadCard (cardCommand (beginning l (pastFirst (pastFirst l))) (wordsOf l))
+
+-- the places of a group, past the line's first word
+abbrev pub places : Reader Places
+places = do
+  w ← word
+  g ← grouped
+  give (g .1)
+
+-- the places of a line of a group; none where a line is not read so
+abbrev pub placesIn : List ℕ → Places
+placesIn l = whole (placesOf []) (places (wordsOf l))

@@ -2,18 +2,19 @@
 use mathlib.Core.Path.{_≡_, refl}
 use mathlib.Core.List.{[], _∷_, map}
 use Prim.Native.String.{String}
-use lib.ListN.{drop}
+use lib.ListN.{drop, replicate}
 use Rattle.descriptor.specs.declared.TariffPart.the-variants.{Em, Phased}
 use Rattle.descriptor.specs.declared.BurstPart.the-variants.{Keep, Start}
 use Rattle.descriptor.specs.declared.Hook.the-variants.{Stop}
 use Rattle.script.specs.Words.{wordsOf}
 use Rattle.script.specs.Commands.{commandOf}
-use Rattle.script.specs.Cards.{cardCommandOf}
+use Rattle.script.specs.Readers.{whole}
+use Rattle.script.specs.Cards.{placesOf, group, cardCommandOf, placesIn}
 use Rattle.script.specs.declared.Command.{Command}
 use Rattle.script.specs.declared.Command.the-variants.{Bad, Configure, Period, NoPeriod, Describe, OnHook, Run}
 use Rattle.script.specs.declared.CardCommand.{CardCommand}
 use Rattle.script.specs.declared.CardCommand.the-variants.{Bad as BadCard, Configure as Add}
-use Rattle.script.specs.declared.CardCommand.the-variants.{On, Audit, Text, Tick}
+use Rattle.script.specs.declared.CardCommand.the-variants.{On, Audit, Text, Tick, Group}
 use Rattle.printing.specs.Bytes.{bytes}
 
 -- the command of a line
@@ -88,3 +89,27 @@ pub card-bad :
     ≡ BadCard ∷ BadCard ∷ BadCard ∷ BadCard ∷ BadCard ∷ BadCard ∷ BadCard ∷ BadCard ∷ []
 unfolding wordsOf
 card-bad = refl
+
+-- lines of a group: some places, none, and one that is named twice
+pub card-group :
+    map cardOf ("group 250 3 1 64" ∷ "group 250" ∷ " group 0  7 7 " ∷ []) ≡ Group 250 ∷ Group 250 ∷ Group 0 ∷ []
+unfolding wordsOf
+card-group = refl
+
+-- and their places
+pub card-places :
+    map (λ s. placesIn (bytes s)) ("group 250 3 1 64" ∷ "group 250" ∷ " group 0  7 7 " ∷ [])
+    ≡ placesOf (3 ∷ 1 ∷ 64 ∷ []) ∷ placesOf [] ∷ placesOf (7 ∷ 7 ∷ []) ∷ []
+unfolding wordsOf
+card-places = refl
+
+-- 64 places are taken, and 65 are not
+pub card-most : map (λ n. whole BadCard (group (replicate n (bytes "7")))) (65 ∷ 66 ∷ []) ≡ Group 7 ∷ BadCard ∷ []
+card-most = refl
+
+-- no interval, and a word that is no number
+pub card-no-group :
+    map cardOf ("group" ∷ "group x 1" ∷ "group 5 x" ∷ "group 5 1 x 2" ∷ [])
+    ≡ BadCard ∷ BadCard ∷ BadCard ∷ BadCard ∷ []
+unfolding wordsOf
+card-no-group = refl

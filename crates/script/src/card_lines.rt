@@ -12,9 +12,11 @@ use super::commands::read_describe;
 use super::commands::read_hook;
 use super::commands::read_period;
 use super::commands::read_run;
+use super::groups::read_group;
 use super::keywords::AT;
 use super::keywords::AUDIT;
 use super::keywords::CFG;
+use super::keywords::GROUP;
 use super::keywords::HOOK;
 use super::keywords::RP;
 use super::keywords::SG;
@@ -119,6 +121,9 @@ pub fn read_card(line: &[u8]) -> CardCommand
     }
     if is_word(name, AT) {
         return read_at(line, end);
+    }
+    if is_word(name, GROUP) {
+        return read_group(line, end);
     }
     CardCommand::Bad
 }

@@ -15,6 +15,8 @@ pub(crate) const AUDIT: u64 = 0x7469647561; // "audit"
 
 pub(crate) const TICK: u64 = 0x6b636974; // "tick"
 
+pub(crate) const GROUP: u64 = 0x70756f7267; // "group"
+
 pub(crate) const SG: u64 = 0x4753; // "SG"
 
 pub(crate) const OFF: u64 = 0x66666f; // "off"

@@ -6,6 +6,7 @@ use tariff::Phase;
 
 mod card_lines;
 mod commands;
+mod groups;
 mod keywords;
 mod numbers;
 mod parts;
@@ -14,6 +15,7 @@ mod words;
 
 pub use card_lines::read_card;
 pub use commands::read_command;
+pub use groups::read_places;
 pub use phases::read_phase;
 
 // What a line that `meter` reads asks. `phases` is the number of phase lines that follow, 0 where the tariff is not
@@ -36,7 +38,14 @@ pub enum Command {
     Run(u32),
 }
 
-// What a line of a card's script asks. A text stands from the byte `from` on to the end of the line.
+// The places of a group: the first `count` of the list, whose others are 0.
+pub struct Places {
+    pub count: usize,
+    pub list: [u32; 64],
+}
+
+// What a line of a card's script asks. A text stands from the byte `from` on to the end of the line. `read_places` reads
+// the places of a group.
 pub enum CardCommand {
     Bad,
     Configure { pulse: u32, gap: u32, clock: u32 },
@@ -44,6 +53,7 @@ pub enum CardCommand {
     Audit(u32),
     Text { place: u32, from: usize },
     Tick(u32),
+    Group { interval: u32 },
 }
 
 // What a phase line says.

@@ -97,9 +97,17 @@ returns-3 c =
       ← c .read-at .ensures,
     )
 
+is-word-requires-4 : tie.Need-is-word-requires-4
+is-word-requires-4 c κs = search needs
+
+read-group-requires : tie.Need-read-group-requires
+read-group-requires c κs = search needs
+
 returns-4 : tie.Need-returns-4
 returns-4 c =
-    let e2 = c .before .before in
+    let e4 = c .before in
+    let e3 = e4 .before .before in
+    let e2 = e3 .before .before in
     let e1 = e2 .before .before in
     let n = e1 .before .before .before in
     let w = n .next-word .ensures in
@@ -110,8 +118,31 @@ returns-4 c =
       e1 .if1 .left,
       ← e2 .before .is-word2 .ensures,
       e2 .if2 .left,
-      ← c .before .is-word3 .ensures,
-      c .if3 .left,
+      ← e3 .before .is-word3 .ensures,
+      e3 .if3 .left,
+      ← e4 .before .is-word4 .ensures,
+      e4 .if4 .taken,
+      ← c .read-group .ensures,
+    )
+
+returns-5 : tie.Need-returns-5
+returns-5 c =
+    let e3 = c .before .before in
+    let e2 = e3 .before .before in
+    let e1 = e2 .before .before in
+    let n = e1 .before .before .before in
+    let w = n .next-word .ensures in
+    rw (
+      ← w .spelled,
+      ← w .others,
+      ← e1 .before .is-word .ensures,
+      e1 .if1 .left,
+      ← e2 .before .is-word2 .ensures,
+      e2 .if2 .left,
+      ← e3 .before .is-word3 .ensures,
+      e3 .if3 .left,
+      ← c .before .is-word4 .ensures,
+      c .if4 .left,
     )
 
 pub read-card-spec : {M : Type 1} → statement M
@@ -133,4 +164,7 @@ read-card-spec =
     is-word-requires-3
     read-at-requires
     returns-3
-    returns-4)
+    is-word-requires-4
+    read-group-requires
+    returns-4
+    returns-5)
