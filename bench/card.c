@@ -5,7 +5,7 @@
 #include "script.h"
 #include "texts.h"
 
-enum { ROOM = 65, LONGEST = 64 };
+enum { ROOM = 65, LONGEST = 64, MOST_NAMED = 64 };
 
 /* What fell on a line since its last notice. */
 struct news {
@@ -24,9 +24,14 @@ struct card {
     struct news news[LONGEST];
 };
 
+static bool sound_length(const struct card *c)
+{
+    return c->count >= 1 && c->count <= LONGEST;
+}
+
 static bool sound_row(const struct card *c)
 {
-    return c->count >= 1 && c->count <= LONGEST && (c->length == 0 || c->count == c->length);
+    return sound_length(c) && (c->length == 0 || c->count == c->length);
 }
 
 /* One tick of each line, in order of place. */
@@ -189,12 +194,58 @@ static bool tick(struct script *in, struct card *c)
     return true;
 }
 
+/* The places that a group's rate is for, in list order. */
+struct group {
+    uint32_t count;
+    uint32_t places[MOST_NAMED];
+};
+
+static bool read_group(struct script *in, struct group *g)
+{
+    for (g->count = 0; !line_ends(in); g->count++)
+        if (g->count == MOST_NAMED || !number(in, &g->places[g->count]))
+            return false;
+    return true;
+}
+
+/* The number that a group's rate is refused with, or 0. */
+static uint32_t group_refusal(const struct card *c, const struct group *g,
+                              const struct descriptor *rate)
+{
+    uint32_t cause = 0;
+
+    if (!sound_length(c))
+        return 14;
+    for (uint32_t i = 0; i < g->count; i++)
+        if (g->places[i] >= c->count)
+            return 15;
+    for (uint32_t i = 0; i < g->count && cause == 0; i++)
+        cause = refusal(&c->lines[g->places[i]], rate);
+    return cause;
+}
+
+/* A rate that all places named take, or none. The same rate twice is as once. */
+static bool group(struct script *in, struct card *c)
+{
+    struct descriptor rate = { .tariff = TARIFF_RATE, .burst = BURST_KEEP };
+    struct group g;
+    uint32_t cause;
+
+    if (!number(in, &rate.period) || !read_group(in, &g))
+        return false;
+    cause = group_refusal(c, &g, &rate);
+    for (uint32_t i = 0; i < g.count && cause == 0; i++)
+        describe(&c->lines[g.places[i]], &rate);
+    put(cause > 0 ? "no " : "ok ", cause, "\n");
+    return true;
+}
+
 static void obey(struct script in, struct card *c)
 {
     static const struct {
         const char *name;
         bool (*obey)(struct script *, struct card *);
-    } commands[] = { { "cfg", add }, { "at", at }, { "tick", tick } };
+    } commands[] = { { "cfg", add }, { "at", at }, { "tick", tick }, { "group", group } };
     size_t known = sizeof commands / sizeof commands[0];
 
     for (; in.at < in.end; next_line(&in)) {
