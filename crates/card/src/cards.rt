@@ -1,5 +1,6 @@
 // What each command does to the card, and what is printed of it.
 use super::describing::describe_from;
+use super::groups;
 use super::output;
 use super::runs;
 use super::ticks::Progress;
@@ -131,6 +132,16 @@ impl Card {
         }
     }
 
+    // With the lines that a group's rate leaves, and its answer put. The places stand in the command's own line.
+    fn grouped(self, interval: u32, text: &[u8], out: &mut [u8]) -> Card {
+        let after = groups::rate(self.lines, self.count, text, interval);
+        let lines = after.lines;
+        let rated = after.rated;
+        let verdict = rated.verdict;
+        let card = Card { lines, ..self };
+        card.with_answer(answer_of(verdict), out)
+    }
+
     // Does what a command asks for. A text stands in the command's own line.
     pub(crate) fn obey(
         self,
@@ -149,6 +160,7 @@ impl Card {
                 self.answered(place, describe_from(line, text, from), out)
             }
             CardCommand::Tick(n) => runs::run(self, n, out),
+            CardCommand::Group { interval } => self.grouped(interval, text, out),
         }
     }
 

@@ -2,6 +2,7 @@
 // that their dispatcher sends.
 mod cards;
 mod describing;
+mod groups;
 mod output;
 mod reader;
 mod runs;

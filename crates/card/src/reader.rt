@@ -36,6 +36,7 @@ fn allowed(command: CardCommand, n: usize) -> CardCommand {
             clock: _,
         } => command,
         CardCommand::Tick(_) => command,
+        CardCommand::Group { interval: _ } => command,
     }
 }
 

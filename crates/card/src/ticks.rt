@@ -25,7 +25,7 @@ pub struct Ran {
 }
 
 // How many of 65 lines are in a row of n.
-fn within(n: usize) -> usize
+pub(crate) fn within(n: usize) -> usize
     ensures { λ r. ⌜ r ≤ 65 ⌝ }
 {
     if n < 65 { n } else { 65 }

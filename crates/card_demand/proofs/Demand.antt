@@ -63,6 +63,7 @@ card-demand ms sound cs = record {
       let m = getD ms i noMaking in
       demand3 (m .D) (m .G) (m .clock) (sound i l .0) (sound i l .1) (lineCalls (cardHistory ms cs) i);
   reply = λ after before e m q c. subst (Replied ms before e) c (replied ms (run-part ms cs after (e ∷ before) q .1));
+  group = λ after before e m ps P q c. subst (Replied ms before e) c (replied ms (run-part ms cs after (e ∷ before) q .1)) sound;
   heard = heard ms cs;
   fits = kept ms cs .fits;
   heard-in-64 = heard-in-64 ms cs;

@@ -1,8 +1,8 @@
--- What the dispatcher's contract computes of a lent row is the step of the card: the row by lists, place by place no more.
+-- What the contracts of dispatcher and group compute of a lent row is the step of the card: the row by lists, place by place no more.
 use mathlib.Core.Path.{_≡_, refl, ap, _∙_}
 use mathlib.Core.Bool.{Bool, true, false, cond}
 use mathlib.Core.List.{List, [], _∷_, _++_, map, map-map}
-use Prim.Native.Nat.{ℕ, zero, suc, min}
+use Prim.Native.Nat.{ℕ, zero, suc, min, _<_}
 use native.Mathlib.Omega.{arith}
 use borrow.Author.Tests.{lt-ltb, le-ltb}
 use lib.Dec.{ltb, eqb, leb·suc-suc, eqb·zero-suc, eqb·suc-zero, eqb·suc-suc}
@@ -11,13 +11,17 @@ use Rattle.answers.specs.Fronts.{silent}
 use Rattle.answers.specs.declared.Tick.{Tick}
 use Rattle.line.specs.Lines.{blankLine}
 use Rattle.line.specs.declared.Line.{Line}
+use Rattle.line.specs.declared.Verdict.{Verdict}
+use Rattle.line.specs.declared.Verdict.the-variants.{Accepted, Refused}
 use Rattle.dispatcher.specs.Dispatch.{gathered, gatherAll, wrongRow, tickedRow, toldRow, dispatchOf}
 use Rattle.dispatcher.specs.declared.Waiting.{Waiting}
+use Rattle.group.specs.Groups.{rateOf, named, verdictOf, ratedRow, groupOf, rowOf as ratedBy}
 use Rattle.demand.specs.Calls.{Call, tick}
 use Rattle.demand.specs.Machine.{step, Past, past, afterCalls, entries, lineAfter}
-use Rattle.card_demand.specs.Card.{onLine, tickRow, Card, callsAt, rowAfter, toldIn, cardStep}
-use Rattle.card_demand.specs.Lending.{calledOn, lentStep, callStep, CardSteps}
+use Rattle.card_demand.specs.Card.{onLine, tickRow, group, Card, callsAt, rate, rowAfter, toldIn, cardStep}
+use Rattle.card_demand.specs.Lending.{calledOn, lentStep, groupStep, callStep, CardSteps}
 use Rattle.card_demand.proofs.Gather.{gathered-silent}
+use Rattle.card_demand.proofs.Group.{clear}
 
 -- ---- lines that get no call
 row-same : (f : ℕ → List Call) → ((i : ℕ) → f i ≡ []) → (ls : List Line) → rowAfter f ls ≡ map (past []) ls
@@ -85,6 +89,35 @@ tick-step k m true e = rw (length-take m (k .lines), e, take-append-drop m (k .l
 tick-step k m false e =
     rw (length-take m (k .lines), e, gather-ticked (k .dispatcher .waiting) m (k .lines), lines-ticked m (k .lines), of-row entries m (k .lines))
 
+-- ---- lines of the first m take a rate command
+module _ (P : ℕ) where
+  abbrev ratedAt : (ℕ → Bool) → ℕ → List Call
+  ratedAt f i = cond (f i) (rate P ∷ []) []
+
+  one-rated : (b : Bool) (l : Line) → lineAfter (afterCalls (past [] l) (cond b (rate P ∷ []) [])) ≡ cond b (rateOf l P .line) l
+  unfolding afterCalls step
+  one-rated true l = refl
+  one-rated false l = refl
+
+  lines-rated : (m : ℕ) (f : ℕ → Bool) → ((i : ℕ) → f i ≡ true → i < m) → (ls : List Line) →
+      map lineAfter (rowAfter (ratedAt f) ls) ≡ ratedRow f P (take m ls) ++ drop m ls
+  unfolding rowAfter ratedRow
+  lines-rated zero f inside ls = rw (row-same (ratedAt f) (λ i. none i (f i) refl) ls) (lines-same ls)
+    where
+      none : (i : ℕ) (b : Bool) → f i ≡ b → cond b (rate P ∷ []) [] ≡ []
+      none i true e = let l = inside i e in absurd (omega arith)
+      none i false e = refl
+  lines-rated (suc m) f inside [] = refl
+  lines-rated (suc m) f inside (l ∷ ls) =
+      rw (one-rated (f 0) l) (ap (λ (ks : List Line). cond (f 0) (rateOf l P .line) l ∷ ks) (lines-rated m (λ i. f (suc i)) (λ i e. let o = inside (suc i) e in omega arith) ls))
+
+group-step : (k : Card) (m : ℕ) (ps : List ℕ) (P : ℕ) (v : Verdict) → verdictOf (take m (k .lines)) ps P ≡ v → cardStep k (group m ps P) ≡ groupStep k m ps P
+unfolding groupOf ratedBy
+group-step k m ps P (Refused r) e = rw (e, take-append-drop m (k .lines))
+group-step k m ps P (Accepted n) e =
+    let c = clear (take m (k .lines)) ps P (n, e) in
+    rw (e, lines-rated P m (named ps) (λ i t. let l = c .places i t in omega (arith, length-take m (k .lines))) (k .lines))
+
 -- ---- a call on one line
 abbrev Calls : ℕ → Call → (ℕ → List Call) → Type 0
 Calls p c f = (i : ℕ) → f i ≡ cond (eqb i p) (c ∷ []) []
@@ -113,4 +146,8 @@ call-step k p c =
     )
 
 pub card-steps : CardSteps
-card-steps = record { ticks = λ k m. tick-step k m (wrongRow (k .dispatcher .length) (min m (length (k .lines)))) refl; calls = call-step }
+card-steps = record {
+  ticks = λ k m. tick-step k m (wrongRow (k .dispatcher .length) (min m (length (k .lines)))) refl;
+  groups = λ k m ps P. group-step k m ps P (verdictOf (take m (k .lines)) ps P) refl;
+  calls = call-step;
+}

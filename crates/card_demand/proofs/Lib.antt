@@ -3,6 +3,7 @@ pub mod Rows
 pub mod Round
 pub mod Gather
 pub mod Kept
+pub mod Group
 pub mod Run
 pub mod Heard
 pub mod Demand

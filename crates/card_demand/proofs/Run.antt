@@ -8,18 +8,23 @@ use Prim.Native.Nat.{ℕ, min, _≤_, _<_}
 use native.Mathlib.Decide.{decLt}
 use native.Mathlib.Omega.{arith}
 use borrow.Author.Tests.{le-ltb}
-use lib.ListN.{length, getD, length-map, List·getD-map}
+use lib.ListN.{length, getD, take, length-map, List·getD-map}
+use Rattle.descriptor.specs.Refusals.{refusalNumber}
 use Rattle.line.specs.Lines.{makeOf, blankLine}
 use Rattle.line.specs.declared.Line.{Line}
+use Rattle.line.specs.declared.Verdict.{Verdict}
+use Rattle.line.specs.declared.Verdict.the-variants.{Accepted, Refused}
 use Rattle.dispatcher.specs.Dispatch.{wrongRow, sentOf, turnOf}
+use Rattle.group.specs.Groups.{verdictOf}
 use Rattle.demand.specs.Calls.{Call, tick, Entry}
 use Rattle.demand.specs.Machine.{Past, past, afterCalls, entries, lineAfter}
-use Rattle.card_demand.specs.Card.{CardCall, onLine, tickRow, sends, refuses, CardEntry, Card, callsAt, rowAfter, refusal}
+use Rattle.card_demand.specs.Card.{CardCall, onLine, tickRow, group, done, sends, refuses, CardEntry, cardEntry, Card, callsAt, rowAfter, refusedWith, refusal}
 use Rattle.card_demand.specs.Card.{Stepped, stepBy, cardStep, CardPast, afterCardCall, afterCardCalls, Making, made, freshCard, cardPast, cardHistory}
 use Rattle.card_demand.specs.Reading.{lineCalls, lineHistory, rowIn, nextIn, due}
-use Rattle.card_demand.specs.Claims.{noMaking}
+use Rattle.card_demand.specs.Claims.{noMaking, AllSound, GroupDemand}
 use Rattle.card_demand.proofs.Rows.{onTop, calls-on-top, calls-append, row-at, row-none, row-past, lines-length}
 use Rattle.card_demand.proofs.Kept.{Kept, accepted-row, kept-fresh, kept-done, kept-refused, sent-is, kept-tick}
+use Rattle.card_demand.proofs.Group.{group-refused, group-taken}
 
 module _ (ms : List Making) where
   abbrev N : ℕ
@@ -34,11 +39,12 @@ module _ (ms : List Making) where
     pub lines : (i : ℕ) → i < N → past (lineHistory h i) (getD (k .lines) i blankLine) ≡ afterCalls (start i) (lineCalls h i)
     pub kept : Kept N h (k .dispatcher)
 
-  -- what a tick of the dispatcher is answered after a history
+  -- what a tick of the dispatcher is answered after a history, and what a group is
   abbrev pub Replied : List CardEntry → CardEntry → CardCall → Type 0
   Replied h e (onLine p c) = Unit {0}
   Replied h e (tickRow m) =
       e .reply ≡ cond (wrongRow (rowIn N h) (min m N)) (refuses 14) (sends (sentOf (due e h) (turnOf (due e h) (min m N) (nextIn N h))))
+  Replied h e (group m ps P) = AllSound ms → GroupDemand ms h e (min m N) ps P
 
   pub record Step (h : List CardEntry) (s : Stepped) : Type 0 where
     pub replied : Replied h (s .entry) (s .entry .call)
@@ -68,16 +74,21 @@ module _ (ms : List Making) where
     abbrev rowsBy : CardCall → List (List Entry)
     rowsBy c = map entries (rowAfter (callsAt c) (k .lines))
 
-    line-good : (p : ℕ) (c : Call) → Step h (cardStep k (onLine p c))
+    -- a call that is done and leaves the dispatcher as it was
+    done-good : (c : CardCall) →
+        Coupled (cardEntry c done (rowsBy c) ∷ h) (record { lines = map lineAfter (rowAfter (callsAt c) (k .lines)); dispatcher = k .dispatcher })
     unfolding lineHistory lineCalls
-    line-good p c = record {
-      replied = tt;
-      coupled = record {
-        size = lines-length (callsAt (onLine p c)) (k .lines) ∙ x .size;
-        lines = line-step (callsAt (onLine p c));
-        kept = kept-done N h (k .dispatcher) (x .kept) (onLine p c) (rowsBy (onLine p c));
-      };
+    done-good c = record {
+      size = lines-length (callsAt c) (k .lines) ∙ x .size;
+      lines = line-step (callsAt c);
+      kept = kept-done N h (k .dispatcher) (x .kept) c (rowsBy c);
     }
+
+    group-good : (m : ℕ) (ps : List ℕ) (P : ℕ) (v : Verdict) → verdictOf (take m (k .lines)) ps P ≡ v → Step h (stepBy (refusedWith v) k (group m ps P))
+    group-good m ps P (Accepted n) e =
+        record { replied = λ sound. group-taken ms sound h (k .lines) (x .size) (x .lines) m ps P n e; coupled = done-good (group m ps P) }
+    group-good m ps P (Refused r) e =
+        record { replied = λ sound. group-refused ms sound h (k .lines) (x .size) (x .lines) m ps P r e; coupled = refused-good (group m ps P) (refusalNumber r) }
 
     module _ (m : ℕ) where
       no-tick : (i : ℕ) → m ≤ i → callsAt (tickRow m) i ≡ []
@@ -109,9 +120,10 @@ module _ (ms : List Making) where
           }
 
     step-good : (c : CardCall) → Step h (cardStep k c)
-    step-good (onLine p c) = line-good p c
+    step-good (onLine p c) = record { replied = tt; coupled = done-good (onLine p c) }
     step-good (tickRow m) =
         subst (λ (r : Option ℕ). Step h (stepBy r k (tickRow m))) (sym (refusal-is m)) (tick-good m (wrongRow (rowIn N h) (min m N)) refl)
+    step-good (group m ps P) = group-good m ps P (verdictOf (take m (k .lines)) ps P) refl
 
   -- ---- histories
   pub data Run : List CardEntry → Card → Type 0 where

@@ -4,22 +4,31 @@ use mathlib.Core.List.{List, [], _∷_, map}
 use mathlib.Core.Option.{Option, none, some}
 use Prim.Native.Nat.{ℕ, suc, min}
 use lib.Dec.{ltb, eqb}
-use lib.ListN.{length}
+use lib.ListN.{length, take}
 use Rattle.answers.specs.Fronts.{silent}
 use Rattle.answers.specs.declared.Tick.{Tick}
+use Rattle.phase_lists.specs.Lists.{noLists}
+use Rattle.descriptor.specs.Refusals.{refusalNumber}
+use Rattle.descriptor.specs.declared.TariffPart.the-variants.{Rate}
+use Rattle.descriptor.specs.declared.BurstPart.the-variants.{Keep}
 use Rattle.line.specs.Lines.{makeOf}
 use Rattle.line.specs.declared.Line.{Line}
+use Rattle.line.specs.declared.Verdict.{Verdict}
+use Rattle.line.specs.declared.Verdict.the-variants.{Accepted, Refused}
 use Rattle.dispatcher.specs.Dispatch.{freshDispatcher, wrongRow, sentBy, afterTick}
 use Rattle.dispatcher.specs.declared.Dispatcher.{Dispatcher}
 use Rattle.dispatcher.specs.declared.Sent.{Sent}
+use Rattle.group.specs.Groups.{named, verdictOf}
 use Rattle.demand.specs.Calls.{Call, tick, Entry}
 use Rattle.demand.specs.History.{told}
-use Rattle.demand.specs.Machine.{Past, past, afterCalls, entries, lineAfter}
+use Rattle.demand.specs.Machine.{parts, Past, past, afterCalls, entries, lineAfter}
 
--- a call on the line at place p; a tick of the dispatcher on the first m lines of the card, lent
+-- a call on the line at place p; a tick of the dispatcher, and a rate command for the lines at the places ps, both on
+-- the first m lines of the card, lent
 pub data CardCall : Type 0 where
   onLine : (p : ℕ) (c : Call) → CardCall
   tickRow : (m : ℕ) → CardCall
+  group : (m : ℕ) (ps : List ℕ) (P : ℕ) → CardCall
 
 -- done, the line's answer standing in its own entry; what a tick of the dispatcher sends; a refusal's number
 pub data CardReply : Type 0 where
@@ -42,10 +51,15 @@ pub record Card : Type 0 where
 
 -- ---- one call
 
+-- a rate command, burst keep
+abbrev pub rate : ℕ → Call
+rate P = parts (Rate P) noLists Keep
+
 -- the calls that it makes on the line at place i, if it is not refused
 abbrev pub callsAt : CardCall → ℕ → List Call
 callsAt (onLine p c) i = cond (eqb i p) (c ∷ []) []
 callsAt (tickRow m) i = cond (ltb i m) (tick ∷ []) []
+callsAt (group m ps P) i = cond (named ps i) (rate P ∷ []) []
 
 -- where the line at each place i gets the calls f i: the entries that they make, and the line after them
 unfoldable pub rowAfter : (ℕ → List Call) → List Line → List Past
@@ -57,19 +71,27 @@ abbrev pub toldIn : List Entry → Tick
 toldIn [] = silent
 toldIn (e ∷ es) = told (e .answer)
 
+-- the number that a verdict refuses with
+abbrev pub refusedWith : Verdict → Option ℕ
+refusedWith (Accepted k) = none
+refusedWith (Refused r) = some (refusalNumber r)
+
 -- the number that it is refused with; a card that is shorter than m is lent whole
 abbrev pub refusal : Card → CardCall → Option ℕ
 refusal k (onLine p c) = none
 refusal k (tickRow m) = cond (wrongRow (k .dispatcher .length) (min m (length (k .lines)))) (some 14) none
+refusal k (group m ps P) = refusedWith (verdictOf (take m (k .lines)) ps P)
 
 -- not refused: its reply where it made these entries, and the dispatcher after it
 abbrev pub replyTo : CardCall → Card → List (List Entry) → CardReply
 replyTo (onLine p c) k rows = done
 replyTo (tickRow m) k rows = sends (sentBy (k .dispatcher) (min m (length (k .lines))) (map toldIn rows))
+replyTo (group m ps P) k rows = done
 
 abbrev pub dispatcherAfter : CardCall → Card → List (List Entry) → Dispatcher
 dispatcherAfter (onLine p c) k rows = k .dispatcher
 dispatcherAfter (tickRow m) k rows = afterTick (k .dispatcher) (min m (length (k .lines))) (map toldIn rows)
+dispatcherAfter (group m ps P) k rows = k .dispatcher
 
 -- a call's entry and the card after it
 pub record Stepped : Type 0 where

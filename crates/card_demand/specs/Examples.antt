@@ -1,4 +1,4 @@
--- Examples of notices, computed.
+-- Examples of notices, and of rate commands for a group, computed.
 use mathlib.Core.Path.{_≡_, refl}
 use mathlib.Core.Bool.{true, false}
 use mathlib.Core.List.{List, [], _∷_, _++_, map, reverse}
@@ -6,7 +6,7 @@ use Prim.Native.Nat.{ℕ, zero, suc}
 use lib.ListN.{replicate}
 use Rattle.answers.specs.declared.Front.the-variants.{Tariff}
 use Rattle.answers.specs.declared.Tick.{Tick}
-use Rattle.tariff.specs.Tariffs.{emOf}
+use Rattle.tariff.specs.Tariffs.{emOf, rateOf}
 use Rattle.rules.specs.Rules.{soundEm, distanceOf}
 use Rattle.steps.specs.Steps.{stepOf, dueOf, afterCounted}
 use Rattle.burst.specs.Bursts.{completesOf, agedOf}
@@ -22,11 +22,12 @@ use Rattle.dispatcher.specs.declared.Waiting.{Waiting}
 use Rattle.dispatcher.specs.declared.Dispatcher.{Dispatcher}
 use Rattle.dispatcher.specs.declared.Sent.{Sent}
 use Rattle.dispatcher.specs.declared.Sent.the-variants.{Quiet, Notice}
-use Rattle.demand.specs.Calls.{Call, period}
+use Rattle.group.specs.Groups.{named, outside, firstRefusal, verdictOf}
+use Rattle.demand.specs.Calls.{Call, period, Answer, accepted}
 use Rattle.demand.specs.Machine.{parts, afterCalls, step}
-use Rattle.card_demand.specs.Card.{CardCall, onLine, tickRow, CardReply, done, sends, refuses}
+use Rattle.card_demand.specs.Card.{CardCall, onLine, tickRow, group, CardReply, done, sends, refuses}
 use Rattle.card_demand.specs.Card.{rowAfter, Making, afterCardCalls, cardPast, cardHistory}
-use Rattle.card_demand.specs.Reading.{since, left}
+use Rattle.card_demand.specs.Reading.{lineHistory, since, left}
 
 -- ---- three lines, each with a report in every tick: the last is heard in the third, and then each in every third
 
@@ -117,3 +118,45 @@ pub lengths :
 unfolding cardPast afterCardCalls rowAfter afterCalls step freshDispatcher gatherAll firstFrom makeOf freshLine tickOf
     movedBy stepOf dueOf completesOf agedOf countBy sinceFront burstAfter
 lengths = refl
+
+-- ---- rate commands for a group: an em with C = 0 runs on the lines at places 0 and 1, and nothing on that at place 2
+
+abbrev pub slow : Making
+slow = record { D = 2; G = 2; clock = 0 }
+
+abbrev pub three : List Making
+three = making ∷ slow ∷ making ∷ []
+
+abbrev pub running : List CardCall
+running = onLine 0 (em 0 8) ∷ onLine 1 (em 0 8) ∷ []
+
+abbrev pub answers : List Making → List CardCall → ℕ → List Answer
+answers ms cs i = map (λ e. e .answer) (reverse (lineHistory (cardHistory ms cs) i))
+
+-- a line named twice takes it once, and a line that is not named takes nothing; an empty list does nothing
+pub all-take :
+    map (answers three (running ++ (group 3 (1 ∷ 0 ∷ 1 ∷ []) 9 ∷ group 3 [] 9 ∷ []))) (0 ∷ 1 ∷ 2 ∷ [])
+    ≡ (accepted 0 ∷ accepted 0 ∷ []) ∷ (accepted 0 ∷ accepted 0 ∷ []) ∷ [] ∷ []
+unfolding lineHistory cardPast afterCardCalls rowAfter afterCalls step freshDispatcher named outside firstRefusal
+    verdictOf makeOf freshLine describeOf ruling soundEm distanceOf tariffChanged burstChanged emOf rateOf
+all-take = refl
+
+-- 6 ticks are too few for the line at place 1, and no rate can be set at place 2: the first in list order tells; but a
+-- place outside the lines lent comes before them, and the row before that
+abbrev pub refusedGroups : List CardCall
+refusedGroups =
+    group 3 (0 ∷ 1 ∷ 2 ∷ []) 6 ∷ group 3 (0 ∷ 2 ∷ 1 ∷ []) 6 ∷ group 3 (2 ∷ 3 ∷ []) 6 ∷ group 2 (0 ∷ 2 ∷ []) 6
+    ∷ group 0 (0 ∷ []) 6 ∷ []
+
+pub first-refusal :
+    replies three (running ++ refusedGroups)
+    ≡ done ∷ done ∷ refuses 4 ∷ refuses 3 ∷ refuses 15 ∷ refuses 15 ∷ refuses 14 ∷ []
+unfolding cardPast afterCardCalls rowAfter afterCalls step outside firstRefusal verdictOf makeOf freshLine describeOf
+    ruling soundEm distanceOf tariffChanged burstChanged emOf
+first-refusal = refl
+
+-- and the line at place 0, which would take 6 ticks, stays as it is with all others
+pub none-changes : cardPast three (running ++ refusedGroups) .card ≡ cardPast three running .card
+unfolding cardPast afterCardCalls rowAfter afterCalls step outside firstRefusal verdictOf makeOf freshLine describeOf
+    ruling soundEm distanceOf tariffChanged burstChanged emOf
+none-changes = refl

@@ -10,7 +10,7 @@ use Rattle.dispatcher.specs.declared.Waiting.{Waiting}
 use Rattle.dispatcher.specs.declared.Sent.{Sent}
 use Rattle.dispatcher.specs.declared.Sent.the-variants.{Quiet, Notice}
 use Rattle.demand.specs.Calls.{Call, Entry}
-use Rattle.card_demand.specs.Card.{CardCall, onLine, tickRow, done, sends, refuses, CardEntry}
+use Rattle.card_demand.specs.Card.{CardCall, onLine, tickRow, group, done, sends, refuses, CardEntry}
 use Rattle.card_demand.specs.Card.{callsAt, toldIn}
 
 -- ---- one line
@@ -55,6 +55,7 @@ module _ (N : ℕ) where
   abbrev pub lent : CardCall → ℕ
   lent (onLine p c) = 0
   lent (tickRow m) = min m N
+  lent (group m ps P) = min m N
 
   -- the length of the row at the first tick that was taken, 0 before it
   unfoldable pub rowIn : List CardEntry → ℕ

@@ -1,4 +1,5 @@
--- What the code of the dispatcher does, in every model of the machine: the step that a list of calls on a card takes.
+-- What the code of the dispatcher and of a group's rate does, in every model of the machine: the step that a list of
+-- calls on a card takes.
 use mathlib.Core.Path.{_≡_}
 use mathlib.Core.List.{List, _++_}
 use lib.ListN.{length}
@@ -10,8 +11,9 @@ use denote.Ref.{now}
 use Rattle.line.specs.declared.Line.{Line}
 use Rattle.dispatcher.specs.declared.Dispatcher.{Dispatcher}
 use Rattle.dispatcher.proofs.Dispatcher as D
-use Rattle.card_demand.specs.Card.{tickRow, Card, cardStep, Making, freshCard}
-use Rattle.card_demand.specs.Lending.{replied}
+use Rattle.group.proofs.rate as G
+use Rattle.card_demand.specs.Card.{tickRow, group, Card, cardStep, Making, freshCard}
+use Rattle.card_demand.specs.Lending.{replied, groupReply}
 use Rattle.methods.specs.Methods.{Does}
 
 abbrev pub cardOf : List Line → Dispatcher → Card
@@ -27,3 +29,8 @@ module _ {M : Type 1} (𝓤 : URA M) (H : Heap 𝓤) (𝓜 : Model 𝓤 H) (𝓖
         (λ _ (d, (row, _)) r (_, (row′, _)). (others : List Line) →
         let s = cardStep (cardOf (now row ++ others) d) (tickRow (length (now row))) in
         (s .entry .reply ≡ replied (r .reply)) × (s .card ≡ cardOf (now row′ ++ others) (r .dispatcher)))
+    -- a rate command for the places of a list in the row lent: the dispatcher stays
+    pub groups : Does 𝓤 H 𝓜 𝓖 𝓡 G.ended G.Symbol.routine
+        (λ _ (row, (places, (P, _))) r (row′, _). (others : List Line) (d : Dispatcher) →
+        let s = cardStep (cardOf (now row ++ others) d) (group (length (now row)) (now places) P) in
+        (s .entry .reply ≡ groupReply (r .verdict)) × (s .card ≡ cardOf (now row′ ++ others) d))
