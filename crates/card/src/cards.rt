@@ -134,7 +134,8 @@ impl Card {
 
     // With the lines that a group's rate leaves, and its answer put. The places stand in the command's own line.
     fn grouped(self, interval: u32, text: &[u8], out: &mut [u8]) -> Card {
-        let after = groups::rate(self.lines, self.count, text, interval);
+        let held = self.lines;
+        let after = groups::rate(held, self.count, text, interval);
         let lines = after.lines;
         let rated = after.rated;
         let verdict = rated.verdict;

@@ -1,6 +1,6 @@
 // Ticks of a card: the dispatcher ticks the lines of a row where they lie, until there is something to print.
 ghost use mathlib.Core.Path.{_≡_};
-ghost use Prim.Native.Nat.{_≤_, _-_};
+ghost use Prim.Native.Nat.{_≤_, _-_, min};
 use dispatcher::Dispatched;
 use dispatcher::Dispatcher;
 use dispatcher::Reply;
@@ -26,7 +26,7 @@ pub struct Ran {
 
 // How many of 65 lines are in a row of n.
 pub(crate) fn within(n: usize) -> usize
-    ensures { λ r. ⌜ r ≤ 65 ⌝ }
+    ensures { λ r. ⌜ r ≡ min n 65 ⌝ }
 {
     if n < 65 { n } else { 65 }
 }
