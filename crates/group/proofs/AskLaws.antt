@@ -23,7 +23,7 @@ use Rattle.line.specs.declared.Line.{Line}
 use Rattle.line.specs.declared.Verdict.{Verdict}
 use Rattle.line.specs.declared.Verdict.the-variants.{Accepted, Refused}
 use Rattle.group.specs.Groups.{outside, orElse, firstRefusal}
-use Rattle.group.specs.Passes.{isMarked, askedOf, ruledAnswer, outsideOf, heardOf, stepOf, placeIn, lineAt, stepAt, rowAt, endOf, rowBy}
+use Rattle.group.specs.Passes.{isMarked, askedOf, ruledAnswer, refusedOf, heardOf, stepOf, placeIn, lineAt, stepAt, rowAt, endOf, rowBy}
 use Rattle.group.specs.declared.Pass.{Pass}
 use Rattle.group.specs.declared.Passed.{Passed}
 use Rattle.group.proofs.Passing.{cond-ind, end-stuck}
@@ -73,12 +73,12 @@ hears : (n : ℕ) (s : Pass) (ls : List Line) (p : ℕ) → s .rates ≡ false �
 unfolding stepOf
 hears n s ls p e l = rw (l, e)
 
-refuses : (n : ℕ) (s : Pass) (ls : List Line) (p : ℕ) → ltb p n ≡ false → stepAt n s ls p .pass ≡ outsideOf s Place
+refuses : (n : ℕ) (s : Pass) (ls : List Line) (p : ℕ) → ltb p n ≡ false → stepAt n s ls p .pass ≡ refusedOf s Place
 unfolding stepOf
 refuses n s ls p l = rw l
 
 pub asked-end : (n : ℕ) (s : Pass) (ls : List Line) (ps : List ℕ) → s .rates ≡ false → length ps ≤ s .limit → orElse (s .verdict) (Accepted 0) ≡ s .verdict →
-    endOf n s ls ps ≡ cond (outside ps n) (outsideOf s Place) (heardOf s (firstRefusal (answers ls (s .interval)) ps))
+    endOf n s ls ps ≡ cond (outside ps n) (refusedOf s Place) (heardOf s (firstRefusal (answers ls (s .interval)) ps))
 unfolding outside firstRefusal
 asked-end n s ls [] e l plain = rw plain
 asked-end n s ls (p ∷ ps) e l plain = rw (lt-ltb 0 (s .limit) (omega arith)) (by (asked-end n (heardOf s a) ls ps e (omega arith) still) (leb n p) refl)
@@ -92,8 +92,8 @@ asked-end n s ls (p ∷ ps) e l plain = rw (lt-ltb 0 (s .limit) (omega arith)) (
     rest : Verdict
     rest = firstRefusal (answers ls (s .interval)) ps
 
-    by : endOf n (heardOf s a) ls ps ≡ cond (outside ps n) (outsideOf s Place) (heardOf (heardOf s a) rest) → (b : Bool) → leb n p ≡ b →
+    by : endOf n (heardOf s a) ls ps ≡ cond (outside ps n) (refusedOf s Place) (heardOf (heardOf s a) rest) → (b : Bool) → leb n p ≡ b →
         endOf n (stepAt n s ls p .pass) (rowAt n s ls p) ps
-        ≡ cond (b || outside ps n) (outsideOf s Place) (heardOf s (orElse a rest))
-    by ih true g = rw (refuses n s ls p (le-ltb p n (leb-true n p g))) (end-stuck n 0 (outsideOf s Place) (rowAt n s ls p) ps refl)
+        ≡ cond (b || outside ps n) (refusedOf s Place) (heardOf s (orElse a rest))
+    by ih true g = rw (refuses n s ls p (le-ltb p n (leb-true n p g))) (end-stuck n 0 (refusedOf s Place) (rowAt n s ls p) ps refl)
     by ih false g = rw (hears n s ls p e (lt-ltb p n (leb-false n p g)), asks-row n s ls p e) (ih ∙ rw (else-assoc (s .verdict) a rest))

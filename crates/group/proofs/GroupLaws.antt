@@ -16,10 +16,10 @@ use Rattle.line.specs.declared.Verdict.{Verdict}
 use Rattle.line.specs.declared.Verdict.the-variants.{Accepted, Refused}
 use Rattle.dispatcher.specs.Dispatch.{badRow}
 use Rattle.group.specs.Groups.{rateOf, named, outside, firstRefusal, verdictOf, ratedRow, numberOf, ifAccepted, groupOf, rowOf}
-use Rattle.group.specs.Passes.{outsideOf, firstOf, askingOf, withLimit, thatRates, ratingOf, heardOf, lineAt, answerOf, endOf, rowBy, Open}
+use Rattle.group.specs.Passes.{refusedOf, firstOf, askingOf, withLimit, thatRates, ratingOf, heardOf, lineAt, answerOf, endOf, rowBy, Open}
 use Rattle.group.specs.declared.Pass.{Pass}
 use Rattle.group.proofs.MarkLaws.{none-marked}
-use Rattle.group.proofs.Passing.{cond-ind, end-open, end-stuck, row-stuck}
+use Rattle.group.proofs.Passing.{end-stuck, row-stuck}
 use Rattle.group.proofs.AskLaws.{answers, asked-end}
 use Rattle.group.proofs.RateLaws.{rate-verdict, Marks, Ends as EndsWith, rated-end}
 
@@ -31,12 +31,16 @@ row-fits n e =
     (omega (arith, some), ltb-false 64 n (both .1))
 
 pub asking-asks : (n m P : ℕ) → askingOf n m P .rates ≡ false
-asking-asks n m P = cond-ind (λ (s : Pass). s .rates ≡ false) (badRow n) refl refl
+asking-asks n m P = by (badRow n)
+  where
+    by : (b : Bool) → cond b (refusedOf (firstOf m P) Row) (firstOf m P) .rates ≡ false
+    by true = refl
+    by false = refl
 
 pub asking-open : (n m P : ℕ) → Open (askingOf n m P .limit) n m
 asking-open n m P = by (badRow n) refl
   where
-    by : (b : Bool) → badRow n ≡ b → Open (cond b (outsideOf (firstOf m P) Row) (firstOf m P) .limit) n m
+    by : (b : Bool) → badRow n ≡ b → Open (cond b (refusedOf (firstOf m P) Row) (firstOf m P) .limit) n m
     by true e = inl refl
     by false e = inr (refl, row-fits n e .0)
 
@@ -97,12 +101,12 @@ module _ (ls : List Line) (ps : List ℕ) (P : ℕ) where
   heard-ends most out (Refused r) e = refused-ends (heardOf s₀ (Refused r)) r refl refl
   heard-ends most out (Accepted k) e = rated-ends most out k e
 
-  asked-ends : n ≤ 64 → (b : Bool) → outside ps n ≡ b → Ends (cond b (outsideOf s₀ Place) (heardOf s₀ answered)) (cond b (Refused Place) answered)
-  asked-ends most true out = refused-ends (outsideOf s₀ Place) Place refl refl
+  asked-ends : n ≤ 64 → (b : Bool) → outside ps n ≡ b → Ends (cond b (refusedOf s₀ Place) (heardOf s₀ answered)) (cond b (Refused Place) answered)
+  asked-ends most true out = refused-ends (refusedOf s₀ Place) Place refl refl
   asked-ends most false out = heard-ends most out answered refl
 
-  both : (b : Bool) → badRow n ≡ b → Ends (endOf n (cond b (outsideOf s₀ Row) s₀) ls ps) (cond b (Refused Row) (cond (outside ps n) (Refused Place) answered))
-  both true e = rw (end-stuck n 0 (outsideOf s₀ Row) ls ps refl) (refused-ends (outsideOf s₀ Row) Row refl refl)
+  both : (b : Bool) → badRow n ≡ b → Ends (endOf n (cond b (refusedOf s₀ Row) s₀) ls ps) (cond b (Refused Row) (cond (outside ps n) (Refused Place) answered))
+  both true e = rw (end-stuck n 0 (refusedOf s₀ Row) ls ps refl) (refused-ends (refusedOf s₀ Row) Row refl refl)
   both false e = rw (asked-end n s₀ ls ps refl (omega arith) refl, same-answered) (asked-ends (row-fits n e .1) (outside ps n) refl)
 
   -- the pass that rates, after the one that asks

@@ -1,7 +1,7 @@
 -- Marks in a word: to mark a place marks it, and no other.
-use mathlib.Core.Path.{_≡_, refl, sym, ap, _∙_}
+use mathlib.Core.Path.{_≡_, refl, ap, _∙_}
 use mathlib.Core.Bool.{Bool, true, false, cond, _||_}
-use Prim.Native.Nat.{ℕ, zero, suc, _+_, _-_, _*_, _/_, _%_, _^_, max, _<_}
+use Prim.Native.Nat.{ℕ, suc, _+_, _-_, _/_, _%_, _^_, max, _<_}
 use native.Mathlib.Decide.{decLt}
 use native.Mathlib.Nat.{one-mul, mod-lt, mod-eq-of-lt, mul-mod-left, zero-div, div-self, div-eq-of-lt, mul-div-cancel-left, pow-suc}
 use native.Mathlib.Omega.{arith}

@@ -6,7 +6,7 @@ use mathlib.Core.Path.{_≡_}
 use Prim.Native.Nat.{ℕ, _*_, _/_, _%_, _^_, _<_}
 use lib.Bits.{bitOr}
 use lib.Dec.{ltb, eqb}
-use lib.ListN.{length, getD, set}
+use lib.ListN.{getD, set}
 use Rattle.tariff.specs.Tariffs.{isEndless}
 use Rattle.phase_lists.specs.Tables.{noTable}
 use Rattle.descriptor.specs.Rulings.{descriptorRuling}
@@ -50,49 +50,40 @@ askedOf S s P = ruledAnswer (descriptorRuling S (isEndless (s .tariff)) (isRunni
 
 -- ---- a pass
 
-abbrev pub outsideOf : Pass → Refusal → Pass
-outsideOf s why =
-    record { interval = s .interval; limit = 0; rates = s .rates; verdict = Refused why; marks = s .marks; lines = s .lines }
+abbrev pub passOf : ℕ → ℕ → Bool → Verdict → ℕ → ℕ → Pass
+passOf P limit rates v marks lines =
+    record { interval = P; limit = limit; rates = rates; verdict = v; marks = marks; lines = lines }
 
--- over m places in a row of n
+-- the group is refused, whatever its lines answer: no place is left
+abbrev pub refusedOf : Pass → Refusal → Pass
+refusedOf s why = passOf (s .interval) 0 (s .rates) (Refused why) (s .marks) (s .lines)
+
+-- the first pass, over m places
 abbrev pub firstOf : ℕ → ℕ → Pass
-firstOf m P = record { interval = P; limit = m; rates = false; verdict = Accepted 0; marks = 0; lines = 0 }
+firstOf m P = passOf P m false (Accepted 0) 0 0
 
+-- and in a row of n
 abbrev pub askingOf : ℕ → ℕ → ℕ → Pass
-askingOf n m P = cond (badRow n) (outsideOf (firstOf m P) Row) (firstOf m P)
+askingOf n m P = cond (badRow n) (refusedOf (firstOf m P) Row) (firstOf m P)
 
 abbrev pub withLimit : Pass → ℕ → Pass
-withLimit s limit =
-    record { interval = s .interval; limit = limit; rates = s .rates; verdict = s .verdict; marks = s .marks; lines = s .lines }
+withLimit s limit = passOf (s .interval) limit (s .rates) (s .verdict) (s .marks) (s .lines)
 
 abbrev pub thatRates : Pass → Pass
-thatRates s =
-    record { interval = s .interval; limit = s .limit; rates = true; verdict = s .verdict; marks = s .marks; lines = s .lines }
+thatRates s = passOf (s .interval) (s .limit) true (s .verdict) (s .marks) (s .lines)
 
+-- the second pass, after the first
 abbrev pub ratingOf : Pass → Pass
 ratingOf s = ifAccepted (s .verdict) (thatRates s) (withLimit s 0)
 
+-- a line has answered
 abbrev pub heardOf : Pass → Verdict → Pass
-heardOf s v =
-    record {
-      interval = s .interval;
-      limit = s .limit;
-      rates = s .rates;
-      verdict = orElse (s .verdict) v;
-      marks = s .marks;
-      lines = s .lines;
-    }
+heardOf s v = passOf (s .interval) (s .limit) (s .rates) (orElse (s .verdict) v) (s .marks) (s .lines)
 
+-- the line at place p is rated
 abbrev pub countedOf : Pass → ℕ → Pass
 countedOf s p =
-    record {
-      interval = s .interval;
-      limit = s .limit;
-      rates = s .rates;
-      verdict = s .verdict;
-      marks = withMark (s .marks) p;
-      lines = oneMore (s .lines);
-    }
+    passOf (s .interval) (s .limit) (s .rates) (s .verdict) (withMark (s .marks) p) (oneMore (s .lines))
 
 abbrev pub passed : Pass → State → Passed
 passed s t = record { pass = s; state = t }
@@ -103,7 +94,7 @@ stepOf s n p S t =
     cond (ltb p n)
     (cond (s .rates)
     (cond (isMarked (s .marks) p) (passed s t) (passed (countedOf s p) (withRate t (s .interval))))
-    (passed (heardOf s (askedOf S t (s .interval))) t)) (passed (outsideOf s Place) t)
+    (passed (heardOf s (askedOf S t (s .interval))) t)) (passed (refusedOf s Place) t)
 
 abbrev pub answerOf : Pass → Rated
 answerOf s = record { verdict = s .verdict; lines = s .lines }

@@ -2,7 +2,7 @@
 ghost use mathlib.Core.Path.{_≡_};
 ghost use lib.Dec.{ltb};
 ghost use Rattle.state.specs.Rules.{oneMore};
-ghost use Rattle.group.specs.Passes.{askingOf, ratingOf, outsideOf, heardOf, countedOf, stepOf, answerOf};
+ghost use Rattle.group.specs.Passes.{askingOf, ratingOf, refusedOf, heardOf, countedOf, stepOf, answerOf};
 use super::Pass;
 use super::Passed;
 use super::Rated;
@@ -63,7 +63,7 @@ impl Pass {
 
     // The group is refused, whatever its lines answer: there is no more place.
     fn refused(self, why: Refusal) -> Pass
-        ensures { λ r. ⌜ r ≡ outsideOf self why ⌝ }
+        ensures { λ r. ⌜ r ≡ refusedOf self why ⌝ }
     {
         Pass {
             limit: 0,

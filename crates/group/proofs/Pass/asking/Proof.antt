@@ -5,11 +5,11 @@ use Prim.Native.Nat.{ℕ}
 use borrow.Author.Needs.{needs}
 use Rattle.descriptor.specs.declared.Refusal.the-variants.{Row}
 use Rattle.dispatcher.specs.Dispatch.{badRow}
-use Rattle.group.specs.Passes.{outsideOf, firstOf, askingOf}
+use Rattle.group.specs.Passes.{refusedOf, firstOf, askingOf}
 use Rattle.group.proofs.Pass.asking.Statement.{statement}
 use Rattle.group.proofs.Pass.asking.Tie as tie
 
-bad-row : (n m P : ℕ) → badRow n ≡ true → outsideOf (firstOf m P) Row ≡ askingOf n m P
+bad-row : (n m P : ℕ) → badRow n ≡ true → refusedOf (firstOf m P) Row ≡ askingOf n m P
 bad-row n m P e = rw e
 
 good-row : (n m P : ℕ) → badRow n ≡ false → firstOf m P ≡ askingOf n m P
