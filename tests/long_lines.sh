@@ -29,6 +29,9 @@ says "at 0 sig ph 1 none"
 says "${blanks}200 1 1 1 0${blanks}1 ${zeros}0" 'ok 0'
 says "tick ${zeros}2001" 'n 2001 0 0 0 1'
 says "at ${zeros}0${blanks}audit${blanks}" 'a 3 0'
+says "${blanks}group${blanks}${zeros}300 ${zeros}0 ${zeros}1" 'no 15'
+says "group 300${blanks}0${blanks}" 'no 3'
+says "group 300 1$zeros" bad
 tests/vectors.sh target/bin/card "$work/card.in"
 
 script=texts
