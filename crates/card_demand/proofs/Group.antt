@@ -2,29 +2,25 @@
 use mathlib.Core.Path.{_≡_, refl, sym, ap, _∙_}
 use mathlib.Core.Bool.{Bool, true, false, cond, _||_, true≢false}
 use mathlib.Core.List.{List, [], _∷_, _++_, map}
+use mathlib.Mathlib.Data.Bool.Basic.{or-eq-false-eq-eq-false-and-eq-false as or-none}
 use Prim.Native.Nat.{ℕ, min, _<_}
 use native.Mathlib.Omega.{arith}
 use borrow.Author.Tests.{eqb-true, leb-false}
 use lib.Dec.{leb, eqb}
 use lib.ListN.{length, getD, take, length-take}
 use lib.Seq.{getD-take}
-use Rattle.phase_lists.specs.Lists.{phasesOf, noLists}
-use Rattle.phase_lists.specs.Tables.{eightOf}
 use Rattle.descriptor.specs.Refusals.{refusalNumber}
-use Rattle.descriptor.specs.declared.TariffPart.the-variants.{Rate}
-use Rattle.descriptor.specs.declared.BurstPart.the-variants.{Keep}
-use Rattle.descriptor.specs.declared.Ruling.{Ruling}
-use Rattle.descriptor.specs.declared.Ruling.the-variants.{Allowed, TurnedDown}
 use Rattle.descriptor.specs.declared.Refusal.{Refusal}
 use Rattle.descriptor.specs.declared.Refusal.the-variants.{Row, Place}
-use Rattle.line.specs.Lines.{blankLine, tariffChanged, burstChanged, answeredBy, describeOf}
+use Rattle.line.specs.Lines.{blankLine}
 use Rattle.line.specs.declared.Line.{Line}
 use Rattle.line.specs.declared.Verdict.{Verdict}
 use Rattle.line.specs.declared.Verdict.the-variants.{Accepted, Refused}
 use Rattle.dispatcher.specs.Dispatch.{badRow}
 use Rattle.group.specs.Groups.{rateOf, named, outside, orElse, firstRefusal, verdictOf}
+use Rattle.group.proofs.RateLaws.{rate-cancels, else-accepted}
 use Rattle.demand.specs.Calls.{Answer, accepted, Entry}
-use Rattle.demand.specs.Machine.{verdictTold, step, rulingOf, entryFor, Past, past, afterCalls, entries, history}
+use Rattle.demand.specs.Machine.{verdictTold, step, entryFor, Past, past, afterCalls, entries, history}
 use Rattle.demand.proofs.Demand.{demand3}
 use Rattle.card_demand.specs.Card.{group, CardReply, done, refuses, CardEntry, cardEntry, callsAt, rate, rowAfter, Making, made}
 use Rattle.card_demand.specs.Reading.{lineCalls, lineHistory}
@@ -33,10 +29,6 @@ use Rattle.card_demand.specs.Lending.{groupReply}
 use Rattle.card_demand.proofs.Rows.{calls-append, row-at, row-none}
 
 -- ---- places of a list
-or-false-both : (a b : Bool) → (a || b) ≡ false → (a ≡ false) × (b ≡ false)
-or-false-both true b e = absurd (true≢false e)
-or-false-both false b e = (refl, e)
-
 -- a place named is one of the list
 module _ (A : ℕ → Type 0) (i : ℕ) where
   named-in : (p : ℕ) (ps : List ℕ) → A p → (named ps i ≡ true → A i) → named (p ∷ ps) i ≡ true → A i
@@ -51,7 +43,7 @@ inside : (ps : List ℕ) (n : ℕ) → outside ps n ≡ false → (i : ℕ) → 
 unfolding outside named
 inside [] n e i t = absurd (true≢false (sym t))
 inside (p ∷ ps) n e i t =
-    let both = or-false-both (leb n p) (outside ps n) e in
+    let both = or-none (leb n p) (outside ps n) .0 e in
     named-in (λ j. j < n) i p ps (leb-false n p (both .0)) (inside ps n (both .1) i) t
 
 -- ---- the first refusal
@@ -65,7 +57,7 @@ first-same : (n : ℕ) (f : ℕ → Verdict) (g : ℕ → Answer) → ((p : ℕ)
 unfolding outside firstRefusal firstRefused
 first-same n f g same [] e = refl
 first-same n f g same (p ∷ ps) e =
-    let both = or-false-both (leb n p) (outside ps n) e in
+    let both = or-none (leb n p) (outside ps n) .0 e in
     refused-or (f p) (firstRefusal f ps) (firstRefused g ps) (first-same n f g same ps (both .1))
     ∙ ap (λ (a : Answer). refusalElse a (firstRefused g ps)) (same p (leb-false n p (both .0)))
 
@@ -73,8 +65,7 @@ abbrev pub Accepts : Verdict → Type 0
 Accepts v = (k : ℕ) × (v ≡ Accepted k)
 
 accepted-both : (v w : Verdict) → Accepts (orElse v w) → Accepts v × Accepts w
-accepted-both (Accepted k) w a = ((k, refl), a)
-accepted-both (Refused r) w a = absurd (let q = a .1 in let o : _≡_ {A = ℕ} 0 1 = cc in omega arith)
+accepted-both v w a = let both = else-accepted v w (a .0) (a .1) in (both .0, (a .0, both .1))
 
 all-accept : (f : ℕ → Verdict) (ps : List ℕ) → Accepts (firstRefusal f ps) → (i : ℕ) → named ps i ≡ true → Accepts (f i)
 unfolding firstRefusal named
@@ -99,15 +90,6 @@ clear ls ps P = by (badRow (length ls)) (outside ps (length ls)) refl
     by true b e a = absurd (let q = a .1 in let o : _≡_ {A = ℕ} 0 1 = cc in omega arith)
     by false true e a = absurd (let q = a .1 in let o : _≡_ {A = ℕ} 0 1 = cc in omega arith)
     by false false e a = record { places = inside ps (length ls) e; lines = all-accept f ps a }
-
--- a rate command that is accepted cancels no burst pulse
-rate-cancels : (l : Line) (P : ℕ) → Accepts (rateOf l P .verdict) → rateOf l P .verdict ≡ Accepted 0
-unfolding describeOf
-rate-cancels l P = by (rulingOf l (rate P)) (burstChanged Keep (tariffChanged (Rate P) (length (phasesOf noLists)) (eightOf (phasesOf noLists)) l))
-  where
-    by : (u : Ruling) (changed : Line) → Accepts (answeredBy u l changed 0 .verdict) → answeredBy u l changed 0 .verdict ≡ Accepted 0
-    by Allowed changed a = refl
-    by (TurnedDown r) changed a = absurd (let q = a .1 in let o : _≡_ {A = ℕ} 0 1 = cc in omega arith)
 
 -- ---- on a card with the lines ls after the history h
 module _ (ms : List Making) (sound : AllSound ms) (h : List CardEntry) (ls : List Line) (size : length ls ≡ length ms)
@@ -178,7 +160,7 @@ module _ (ms : List Making) (sound : AllSound ms) (h : List CardEntry) (ls : Lis
         let l = c .places i t in
         let y = rw (getD-take m ls i blankLine (omega (arith, row-size))) at (c .lines i t) in (
           entryFor (rate P) (accepted 0) (rateOf (getD ls i blankLine) P .line),
-          ap entries (row-at (callsAt (group m ps P)) ls i (omega (arith, row-size, size))) ∙ rw (t, rate-cancels (getD ls i blankLine) P y),
+          ap entries (row-at (callsAt (group m ps P)) ls i (omega (arith, row-size, size))) ∙ rw (t, rate-cancels (getD ls i blankLine) P (y .0) (y .1)),
           refl,
           refl,
         )

@@ -62,6 +62,14 @@ module _ (l : Line) (P : ℕ) where
       by Allowed q = refl
       by (TurnedDown r) q = absurd (let o : _≡_ {A = ℕ} 0 1 = cc in omega arith)
 
+  -- and no burst pulse is cancelled
+  pub rate-cancels : (k : ℕ) → rateOf l P .verdict ≡ Accepted k → rateOf l P .verdict ≡ Accepted 0
+  rate-cancels k e = ap (λ (a : Answered). a .verdict) rate-is ∙ by ruled (sym (ap (λ (a : Answered). a .verdict) rate-is) ∙ e)
+    where
+      by : (u : Ruling) → answeredBy u l rated 0 .verdict ≡ Accepted k → answeredBy u l rated 0 .verdict ≡ Accepted 0
+      by Allowed q = refl
+      by (TurnedDown r) q = absurd (let o : _≡_ {A = ℕ} 0 1 = cc in omega arith)
+
 -- ---- the row
 rated-other : (f : ℕ → Bool) (P : ℕ) (ls : List Line) (i : ℕ) → f i ≡ false → getD (ratedRow f P ls) i blankLine ≡ getD ls i blankLine
 unfolding ratedRow
@@ -116,7 +124,7 @@ number-most f (suc n) = by (f n) (number-most f n)
     by false h = omega arith
 
 -- ---- the list
-else-accepted : (u v : Verdict) (k : ℕ) → orElse u v ≡ Accepted k → ((j : ℕ) × (u ≡ Accepted j)) × (v ≡ Accepted k)
+pub else-accepted : (u v : Verdict) (k : ℕ) → orElse u v ≡ Accepted k → ((j : ℕ) × (u ≡ Accepted j)) × (v ≡ Accepted k)
 else-accepted (Accepted j) v k e = ((j, refl), e)
 else-accepted (Refused r) v k e = absurd (let o : _≡_ {A = ℕ} 0 1 = cc in omega arith)
 
