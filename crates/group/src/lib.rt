@@ -16,7 +16,7 @@ pub struct Rated {
 
 // A pass over the places of a list, which asks the line at each, or rates it if its place is not marked yet. `limit` is
 // the number of places: none of them once the group is refused.
-pub struct Pass {
+pub(crate) struct Pass {
     pub interval: u32,
     pub limit: usize,
     pub rates: bool,
@@ -26,7 +26,7 @@ pub struct Pass {
 }
 
 // The pass after a place, and the state of the line there.
-pub struct Passed {
+pub(crate) struct Passed {
     pub pass: Pass,
     pub state: State,
 }
