@@ -9,4 +9,4 @@ pub use Rattle.descriptor.specs.declared.Ruling.the-variants.{Allowed, T
 pub use Rattle.descriptor.specs.declared.Refusal.{Refusal}
 pub use Rattle.descriptor.specs.declared.Refusal.the-variants.{Configuration, Period, NoEndlessEm, Interval}
 pub use Rattle.descriptor.specs.declared.Refusal.the-variants.{Lists as PhaseLists, Phase, Burst, BurstRuns}
-pub use Rattle.descriptor.specs.declared.Refusal.the-variants.{Grammar, Content, Row, Place}
+pub use Rattle.descriptor.specs.declared.Refusal.the-variants.{Grammar, Content, Row, Place, Ticket, Serial}

@@ -1,4 +1,5 @@
--- What is turned down: the table of the paper, 1 to 8, in ascending order.
+-- What is turned down: the table of the paper, and what the requests add to it. Causes stand in the order in which
+-- they count, ascending where a request names no other.
 use mathlib.Core.Bool.{Bool, cond, not, _&&_}
 use mathlib.Core.List.{List, [], _∷_, _++_}
 use Prim.Native.Nat.{ℕ}
@@ -9,7 +10,7 @@ use Rattle.phase_lists.specs.Lists.{Lists, phasesOf, soundLists}
 use Rattle.descriptor.specs.Names.{TariffPart, NoTariff, KeepTariff, Rate, Em, Phased}
 use Rattle.descriptor.specs.Names.{BurstPart, NoBurst, KeepBurst, Start, Ruling, Allowed, TurnedDown, Refusal}
 use Rattle.descriptor.specs.Names.{Configuration, Period, NoEndlessEm, Interval, PhaseLists, Phase}
-use Rattle.descriptor.specs.Names.{Burst, BurstRuns, Grammar, Content, Row, Place}
+use Rattle.descriptor.specs.Names.{Burst, BurstRuns, Grammar, Content, Row, Place, Ticket, Serial}
 
 -- the paper's number of each cause
 abbrev pub refusalNumber : Refusal → ℕ
@@ -25,12 +26,14 @@ refusalNumber Grammar = 12
 refusalNumber Content = 13
 refusalNumber Row = 14
 refusalNumber Place = 15
+refusalNumber Ticket = 16
+refusalNumber Serial = 17
 
 -- a cause to refuse a call, and whether it applies
 pub data Cause : Type 0 where
   cause : (r : Refusal) (applies : Bool) → Cause
 
--- the lowest number that applies: causes stand in ascending order
+-- the first cause that applies
 unfoldable pub ruling : List Cause → Ruling
 ruling [] = Allowed
 ruling (cause r applies ∷ rest) = cond applies (TurnedDown r) (ruling rest)
@@ -64,3 +67,7 @@ module _ (S : ℕ) (endlessRuns burstRuns : Bool) where
 -- a report period of 0 is refused
 abbrev pub periodCauses : ℕ → List Cause
 periodCauses n = cause Period (eqb n 0) ∷ []
+
+-- on commit: a ticket that differs from the serial, and then a serial at its top
+abbrev pub ticketCauses : ℕ → ℕ → List Cause
+ticketCauses ticket serial = cause Ticket (not (eqb ticket serial)) ∷ cause Serial (eqb serial 4294967295) ∷ []

@@ -2,11 +2,13 @@
 mod cancelling;
 mod refusals;
 mod tables;
+mod tickets;
 
 pub use cancelling::cancelled_by;
 pub use refusals::ruling_on;
 pub use refusals::sound_configuration;
 pub use tables::phases_for;
+pub use tickets::ticket_ruling;
 
 // The tariff part of a descriptor. The lists of a phased tariff stand beside it.
 pub enum TariffPart {
@@ -44,6 +46,8 @@ pub enum Refusal {
     Content,
     Row,
     Place,
+    Ticket,
+    Serial,
 }
 
 // What the table of refusals makes of a call.

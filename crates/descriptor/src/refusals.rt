@@ -30,6 +30,8 @@ impl Refusal {
             Refusal::Content => 13,
             Refusal::Row => 14,
             Refusal::Place => 15,
+            Refusal::Ticket => 16,
+            Refusal::Serial => 17,
         }
     }
 }

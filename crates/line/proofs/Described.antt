@@ -19,9 +19,8 @@ use Rattle.descriptor.specs.declared.TariffPart.the-variants.{None as NoTariff,
 use Rattle.descriptor.specs.declared.BurstPart.{BurstPart}
 use Rattle.burst.specs.Bursts.{isRunning}
 use Rattle.descriptor.specs.Cancelled.{cancelledBy}
-use Rattle.line.specs.Lines.{tariffChanged, burstChanged, answeredBy, describedBy, describeOf, readAnswer, describeTextOf}
+use Rattle.line.specs.Lines.{tariffChanged, burstChanged, refusing, answeredBy, describedBy, describeOf, readAnswer, describeTextOf}
 use Rattle.line.specs.declared.Answered.{Answered}
-use Rattle.line.specs.declared.Verdict.the-variants.{Refused}
 use Rattle.line.specs.declared.Line.{Line}
 use Rattle.grammar.specs.Meaning.{listsBy, Reading as Meant, unreadable, senseless, descriptor, readingOf}
 use Rattle.outcomes.specs.Outcomes.{keptOf}
@@ -70,7 +69,7 @@ describe-nine l Phased ls p = cases (soundLists ls) (λ t. ap (λ (ms : Lists). 
 
 -- what the code makes of a reading
 abbrev taken : Line → Ruling → Reading → Answered
-taken l (TurnedDown r) q = record { line = l; verdict = Refused r }
+taken l (TurnedDown r) q = refusing l r
 taken l Allowed q = describedBy l (q .tariff) (tableFor (l .spacing) (q .tariff) (listsBy (keptOf (q .counts) (q .values)))) (q .burst)
 
 read-is : (l : Line) (m : Meant) (q : Reading) → Agrees m q → taken l (q .ruling) q ≡ readAnswer l m

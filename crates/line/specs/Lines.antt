@@ -9,7 +9,7 @@ use Rattle.tariff.specs.declared.Tariff.the-variants.{Idle}
 use Rattle.phase_lists.specs.Lists.{Lists, phasesOf}
 use Rattle.phase_lists.specs.Tables.{noPhases, eightOf}
 use Rattle.phase_lists.specs.declared.PhaseTable.{PhaseTable}
-use Rattle.descriptor.specs.Refusals.{ruling, soundConfiguration, descriptorCauses, periodCauses}
+use Rattle.descriptor.specs.Refusals.{ruling, soundConfiguration, descriptorCauses, periodCauses, ticketCauses}
 use Rattle.descriptor.specs.Rulings.{descriptorRuling}
 use Rattle.descriptor.specs.Cancelled.{cancelledBy}
 use Rattle.descriptor.specs.declared.Ruling.{Ruling}
@@ -19,11 +19,13 @@ use Rattle.descriptor.specs.declared.TariffPart.the-variants.{None as NoTariff,
 use Rattle.descriptor.specs.declared.TariffPart.the-variants.{Rate, Em, Phased}
 use Rattle.descriptor.specs.declared.BurstPart.{BurstPart}
 use Rattle.descriptor.specs.declared.BurstPart.the-variants.{None as NoBurst, Keep as KeepBurst, Start}
+use Rattle.descriptor.specs.declared.Refusal.{Refusal}
 use Rattle.descriptor.specs.declared.Refusal.the-variants.{Configuration, Grammar, Content}
 use Rattle.descriptor.specs.declared.Hook.{Hook}
 use Rattle.descriptor.specs.declared.Hook.the-variants.{Keep, Stop}
 use Rattle.grammar.specs.Meaning.{Reading, unreadable, senseless, descriptor, readingOf}
 use Rattle.burst.specs.Bursts.{noBurst, startOf, isRunning}
+use Rattle.state.specs.Rules.{oneMore}
 use Rattle.state.specs.States.{zeroCounters, withTariff, withBurst, withCounters, stopped, withRate, originWait, isOn}
 use Rattle.state.specs.declared.State.{State}
 use Rattle.state.specs.declared.Moved.{Moved}
@@ -31,18 +33,20 @@ use Rattle.ticking.specs.Moves.{movedBy}
 use Rattle.line.specs.declared.Line.{Line}
 use Rattle.line.specs.declared.Verdict.the-variants.{Accepted, Refused}
 use Rattle.line.specs.declared.Answered.{Answered}
+use Rattle.line.specs.declared.Asked.{Asked}
 use Rattle.line.specs.declared.Audited.{Audited}
 use Rattle.line.specs.declared.Ticked.{Ticked}
 
 -- ---- making a line
 
--- no tariff, burst or report period, and counters 0
+-- no tariff, burst or report period, and counters and serial 0
 abbrev pub idleLine : ℕ → ℕ → ℕ → ℕ → Line
 idleLine D S clock since =
     record {
       pulse = D;
       spacing = S;
       count = 0;
+      serial = 0;
       state =
           record { wait = 0; clock = clock; since = since; tariff = Idle; burst = noBurst; counters = zeroCounters 0 };
       phases = noPhases;
@@ -62,11 +66,43 @@ makeOf D G clock =
     cond (soundConfiguration D G) (record { line = freshLine D (D + G) clock; verdict = Accepted 0 })
     (record { line = blankLine; verdict = Refused Configuration })
 
+-- ---- accepted and refused commands
+
+abbrev pub withSerial : Line → ℕ → Line
+withSerial l n =
+    record {
+      pulse = l .pulse;
+      spacing = l .spacing;
+      count = l .count;
+      serial = n;
+      state = l .state;
+      phases = l .phases;
+    }
+
+-- an accepted command adds 1 to the serial of the line that it leaves; k burst pulses are cancelled
+abbrev pub accepting : Line → ℕ → Answered
+accepting l k = record { line = withSerial l (oneMore (l .serial)); verdict = Accepted k }
+
+-- a refused one leaves the line as it was
+abbrev pub refusing : Line → Refusal → Answered
+refusing l r = record { line = l; verdict = Refused r }
+
+abbrev pub answeredBy : Ruling → Line → Line → ℕ → Answered
+answeredBy Allowed l changed k = accepting changed k
+answeredBy (TurnedDown r) l changed k = refusing l r
+
 -- ---- descriptors and hook events
 
 abbrev pub withState : Line → State → Line
 withState l s =
-    record { pulse = l .pulse; spacing = l .spacing; count = l .count; state = s; phases = l .phases }
+    record {
+      pulse = l .pulse;
+      spacing = l .spacing;
+      count = l .count;
+      serial = l .serial;
+      state = s;
+      phases = l .phases;
+    }
 
 -- a fresh em zeroes the counters
 abbrev pub withEm : Line → ℕ → ℕ → Line
@@ -81,6 +117,7 @@ withPhases l n eight =
       pulse = l .pulse;
       spacing = l .spacing;
       count = n;
+      serial = l .serial;
       state = withTariff (l .state) (originWait (l .spacing) (l .state)) (phasedOf eight) (l .state .counters);
       phases = eight;
     }
@@ -96,11 +133,6 @@ unfoldable pub burstChanged : BurstPart → Line → Line
 burstChanged NoBurst l = withState l (withBurst (l .state) noBurst)
 burstChanged KeepBurst l = l
 burstChanged (Start n P) l = withState l (withBurst (l .state) (startOf n (max P (l .spacing))))
-
--- a refused call leaves the line as it was
-abbrev pub answeredBy : Ruling → Line → Line → ℕ → Answered
-answeredBy Allowed l changed k = record { line = changed; verdict = Accepted k }
-answeredBy (TurnedDown r) l changed k = record { line = l; verdict = Refused r }
 
 unfoldable pub describeOf : Line → TariffPart → Lists → BurstPart → Answered
 describeOf l t ls b =
@@ -119,17 +151,30 @@ describedBy l t table b =
 
 -- as a text: refused where it does not read, and then where it makes no sense; else as the descriptor that it reads as
 abbrev pub readAnswer : Line → Reading → Answered
-readAnswer l unreadable = record { line = l; verdict = Refused Grammar }
-readAnswer l senseless = record { line = l; verdict = Refused Content }
+readAnswer l unreadable = refusing l Grammar
+readAnswer l senseless = refusing l Content
 readAnswer l (descriptor t ls b) = describeOf l t ls b
 
 unfoldable pub describeTextOf : Line → List ℕ → Answered
 describeTextOf l text = readAnswer l (readingOf text)
 
 unfoldable pub hookOf : Line → Hook → Answered
-hookOf l Keep = record { line = l; verdict = Accepted 0 }
-hookOf l Stop =
-    record { line = withState l (withBurst (stopped (l .state)) noBurst); verdict = Accepted (l .state .burst .owed) }
+hookOf l Keep = accepting l 0
+hookOf l Stop = accepting (withState l (withBurst (stopped (l .state)) noBurst)) (l .state .burst .owed)
+
+-- ---- asking and committing
+
+-- a commit is turned down for its ticket or for the serial, or gets what its descriptor would get without one
+abbrev pub ticketed : Ruling → Line → Answered → Answered
+ticketed Allowed l given = given
+ticketed (TurnedDown r) l given = refusing l r
+
+unfoldable pub commitOf : Line → ℕ → Answered → Answered
+commitOf l ticket given = ticketed (ruling (ticketCauses ticket (l .serial))) l given
+
+-- asking tells what a commit with the serial would be answered; the ticket is the serial, and the line is as it was
+unfoldable pub askOf : Line → Answered → Asked
+askOf l given = record { line = l; verdict = commitOf l (l .serial) given .verdict; ticket = l .serial }
 
 -- ---- report period and audit
 
@@ -142,7 +187,7 @@ unfoldable pub periodOf : Line → ℕ → Answered
 periodOf l n = answeredBy (ruling (periodCauses n)) l (withPeriod l n) 0
 
 unfoldable pub noPeriodOf : Line → Answered
-noPeriodOf l = record { line = withPeriod l 0; verdict = Accepted 0 }
+noPeriodOf l = accepting (withPeriod l 0) 0
 
 unfoldable pub auditOf : Line → Audited
 auditOf l = record { line = l; cpc = l .state .counters .cpc; pcslr = l .state .counters .pcslr }

@@ -118,11 +118,9 @@ impl Line {
                 let s = self.state;
                 let old = s.burst;
                 let cancelled = descriptor::cancelled_by(burst, old.owed);
-                let changed = self.with_tariff_part(tariff, table);
-                Answered {
-                    line: changed.with_burst_part(burst),
-                    verdict: Verdict::Accepted(cancelled),
-                }
+                let rated = self.with_tariff_part(tariff, table);
+                let changed = rated.with_burst_part(burst);
+                changed.accepting(cancelled)
             }
         }
     }

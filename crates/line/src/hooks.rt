@@ -3,7 +3,6 @@ ghost use mathlib.Core.Path.{_≡_};
 ghost use Rattle.line.specs.Lines.{hookOf};
 use super::Answered;
 use super::Line;
-use super::Verdict;
 use burst::Burst;
 use descriptor::Hook;
 
@@ -13,18 +12,13 @@ impl Line {
         ensures { λ r. ⌜ r ≡ hookOf self event ⌝ }
     {
         match event {
-            Hook::Keep => Answered {
-                line: self,
-                verdict: Verdict::Accepted(0),
-            },
+            Hook::Keep => self.accepting(0),
             Hook::Stop => {
                 let state = self.state;
                 let burst = state.burst;
                 let quiet = state.stopped();
-                Answered {
-                    line: self.with_state(quiet.with_burst(Burst::none())),
-                    verdict: Verdict::Accepted(burst.owed),
-                }
+                let stopped = self.with_state(quiet.with_burst(Burst::none()));
+                stopped.accepting(burst.owed)
             }
         }
     }

@@ -1,12 +1,13 @@
 // The line of a metering gateway: its record, its calls and their answers.
 ghost use mathlib.Core.Path.{_≡_};
-ghost use Rattle.line.specs.Lines.{withState};
+ghost use Rattle.line.specs.Lines.{withState, accepting};
 
 mod descriptors;
 mod hooks;
 mod making;
 mod reports;
 mod text;
+mod tickets;
 mod ticks;
 
 use answers::Tick;
@@ -14,11 +15,13 @@ use descriptor::Refusal;
 use state::State;
 use tariff::Phase;
 
-// A line: pulse length and spacing, its state, and the phases of a phased tariff with their number.
+// A line: pulse length and spacing, its state, and the phases of a phased tariff with their number. The serial is the
+// number of accepted commands, held at 4,294,967,295.
 pub struct Line {
     pub pulse: u32,
     pub spacing: u32,
     pub count: u32,
+    pub serial: u32,
     pub state: State,
     pub phases: [Phase; 8],
 }
@@ -32,6 +35,13 @@ pub enum Verdict {
 pub struct Answered {
     pub line: Line,
     pub verdict: Verdict,
+}
+
+// What asking tells: what a descriptor would be answered, and the ticket to commit it with.
+pub struct Asked {
+    pub line: Line,
+    pub verdict: Verdict,
+    pub ticket: u32,
 }
 
 pub struct Audited {
@@ -50,5 +60,18 @@ impl Line {
         ensures { λ r. ⌜ r ≡ withState self state ⌝ }
     {
         Line { state, ..self }
+    }
+
+    // The answer of an accepted command that leaves this line, with the burst pulses cancelled: it adds 1 to the serial.
+    pub(crate) fn accepting(self, cancelled: u32) -> Answered
+        ensures { λ r. ⌜ r ≡ accepting self cancelled ⌝ }
+    {
+        Answered {
+            line: Line {
+                serial: state::one_more(self.serial),
+                ..self
+            },
+            verdict: Verdict::Accepted(cancelled),
+        }
     }
 }

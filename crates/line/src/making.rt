@@ -11,7 +11,7 @@ use state::State;
 use tariff::Tariff;
 
 impl Line {
-    // No tariff, burst or report period, and counters 0.
+    // No tariff, burst or report period, and counters and serial 0.
     fn idle(pulse: u32, spacing: u32, clock: u32, since: u32) -> Line
         ensures { λ r. ⌜ r ≡ idleLine pulse spacing clock since ⌝ }
     {
@@ -21,6 +21,7 @@ impl Line {
             pulse,
             spacing,
             count: 0,
+            serial: 0,
             state: State {
                 wait: 0,
                 clock,

@@ -19,10 +19,7 @@ impl Line {
             };
         }
         self.state.counters.rp = rp;
-        Answered {
-            line: self,
-            verdict: Verdict::Accepted(0),
-        }
+        self.accepting(0)
     }
 
     // Clears the report period; pcslr stays.
@@ -30,10 +27,7 @@ impl Line {
         ensures { λ r. ⌜ r ≡ noPeriodOf self ⌝ }
     {
         self.state.counters.rp = 0;
-        Answered {
-            line: self,
-            verdict: Verdict::Accepted(0),
-        }
+        self.accepting(0)
     }
 
     // Both counters; the line is as it was.

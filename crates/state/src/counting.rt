@@ -7,7 +7,7 @@ use super::Counters;
 use answers::Front;
 
 // One more, held at 4,294,967,295.
-fn one_more(n: u32) -> u32
+pub fn one_more(n: u32) -> u32
     ensures { λ r. ⌜ r ≡ oneMore n ⌝ }
 {
     if n < 4294967295 { n + 1 } else { n }

@@ -5,6 +5,7 @@ mod quiet;
 
 use answers::Tick;
 use burst::Burst;
+pub use counting::one_more;
 use tariff::Tariff;
 
 // The pulses applied, the pulses since the last report, and the report period, 0 for none.

@@ -21,14 +21,17 @@ with-tariff-part-requires c κs = search needs
 with-burst-part-requires : tie.Need-with-burst-part-requires
 with-burst-part-requires c κs = search needs
 
+accepting-requires : tie.Need-accepting-requires
+accepting-requires c κs = search needs
+
 returns : tie.Need-returns
 returns c = rw (← c .before .before .before .ruling .ensures, c .before .ruling2 .given .1)
 
 returns-2 : tie.Need-returns-2
 returns-2 c =
-    let k = c .before .before in
+    let k = c .before .before .before in
     let o = k .before .before .before in
-    rw (← o .before .before .ruling .ensures, o .enum-told .given .1, ← c .before .with-tariff-part .ensures, k .cancelled-by .ensures, c .with-burst-part .ensures)
+    rw (← o .before .before .ruling .ensures, o .enum-told .given .1, ← c .before .before .with-tariff-part .ensures, ← c .before .with-burst-part .ensures, ← k .cancelled-by .ensures, c .accepting .ensures)
 
 pub described-spec : {M : Type 1} → statement M
 described-spec =
@@ -40,5 +43,6 @@ described-spec =
     cancelled-by-requires
     with-tariff-part-requires
     with-burst-part-requires
+    accepting-requires
     returns
     returns-2)

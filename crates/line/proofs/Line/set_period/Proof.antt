@@ -1,13 +1,14 @@
 -- `Line::set_period` meets its contract.
 use mathlib.Core.Path.{_≡_}
 use Prim.Native.Nat.{ℕ}
+use borrow.Author.Needs.{needs}
 use borrow.Author.Tests.{eq-eqb, ne-eqb}
 use Rattle.descriptor.specs.Refusals.{ruling}
 use Rattle.descriptor.specs.declared.Refusal.the-variants.{Period}
-use Rattle.line.specs.Lines.{withPeriod, periodOf}
+use Rattle.line.specs.Lines.{accepting, withPeriod, periodOf}
 use Rattle.line.specs.declared.Line.{Line}
 use Rattle.line.specs.declared.Answered.{Answered}
-use Rattle.line.specs.declared.Verdict.the-variants.{Accepted, Refused}
+use Rattle.line.specs.declared.Verdict.the-variants.{Refused}
 use Rattle.line.proofs.Line.set_period.Statement.{statement}
 use Rattle.line.proofs.Line.set_period.Tie as tie
 
@@ -18,15 +19,20 @@ module _ (l : Line) (n : ℕ) where
   refuses h = rw (eq-eqb n 0 h)
 
   -- any other is set, and nothing else changes
-  sets : (n ≡ 0 → ⊥) → _≡_ {A = Answered} (record { line = withPeriod l n; verdict = Accepted 0 }) (periodOf l n)
+  sets : (n ≡ 0 → ⊥) → accepting (withPeriod l n) 0 ≡ periodOf l n
   unfolding periodOf ruling
   sets h = rw (ne-eqb n 0 h)
+
+accepting-requires : tie.Need-accepting-requires
+accepting-requires c κs = search needs
 
 returns : tie.Need-returns
 returns c = search refuses
 
 returns-2 : tie.Need-returns-2
-returns-2 c = search sets
+returns-2 c =
+    let k = c .before .before in
+    rw (c .accepting .ensures, c .before .self .given, ← sets (k .before .args .self) (k .before .args .rp) (k .if1 .left))
 
 pub set-period-spec : {M : Type 1} → statement M
-set-period-spec = tie.close (tie.spec returns returns-2)
+set-period-spec = tie.close (tie.spec returns accepting-requires returns-2)
