@@ -31,8 +31,8 @@ pub spacing-fits : (h : Line) → IsLine h → h .spacing < 2 ^ 32
 spacing-fits h is = LL.owed L.the-type L′.the-laws h _ is .1 .0 .1
 
 pub state-of : (h : Line) → IsLine h → IsState (h .state)
-state-of h is = LL.owed L.the-type L′.the-laws h _ is .1 .1 .1 .0
+state-of h is = LL.owed L.the-type L′.the-laws h _ is .1 .1 .1 .1 .0
 
 -- a line at another state is a line
 pub with-state-is : (h : Line) (s : State) → IsLine h → IsState s → IsLine (withState h s)
-with-state-is h s is is′ = let o = LL.owed L.the-type L′.the-laws h _ is in LL.owes L.the-type L′.the-laws (withState h s) (o .0, (o .1 .0, (o .1 .1 .0, (is′, o .1 .1 .1 .1))))
+with-state-is h s is is′ = let o = LL.owed L.the-type L′.the-laws h _ is in LL.owes L.the-type L′.the-laws (withState h s) (o .0, (o .1 .0, (o .1 .1 .0, (o .1 .1 .1 .0, (is′, o .1 .1 .1 .1 .1)))))

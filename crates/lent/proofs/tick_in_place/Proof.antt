@@ -207,11 +207,11 @@ module _ {M : Type 1} (𝓤 : URA M) (H : Heap 𝓤) (A : Atoms 𝓤) (W : Given
         calls-at ! fm (Moves 𝓤 H A at-mem run) knows-moved to-moved (and-then ! (load ! (from ! (stop !)) (look ! 5 refl)) (no-more !)) (λ w.
         use1 W (later (given (Told N.the-type N′.the-laws (moveOf h) w) (‵ ftrue))) (answers 𝓤 H A W N.the-type N′.the-laws (moveOf h) w (moved-says 𝓤 H A at-mem run h) (moved-is 𝓤 H A at-mem run h)) $ await ! tt $ learn ! (λ j. drop ! $
         land ! (from ! (stop !)) (init ! 14 refl (LL.lawful N.the-type N′.the-laws 𝓤 H A W .typed (moveOf h) _ (j .1 .0) .0)) $ rewrite ! 14 (λ (u : Val). ‵ (fat fullShare N′.mir l₃ 0 u)) (j .0) refl $
-        assigns ! (of-opd ! (load ! (from ! (fld ! refl (stop !))) (look-in ! 14 (sub ! 0 refl (whole !))))) (from ! (hop ! (look ! 18 refl) (fld ! refl (stop !)))) (store-in ! 0 (sub ! 3 refl (whole !)) (LL.lawful S.the-type S′.the-laws 𝓤 H A W .typed (moveOf h .state) _ (moved-state (moveOf h) (j .1 .1)) .0)) $
+        assigns ! (of-opd ! (load ! (from ! (fld ! refl (stop !))) (look-in ! 14 (sub ! 0 refl (whole !))))) (from ! (hop ! (look ! 18 refl) (fld ! refl (stop !)))) (store-in ! 0 (sub ! 4 refl (whole !)) (LL.lawful S.the-type S′.the-laws 𝓤 H A W .typed (moveOf h .state) _ (moved-state (moveOf h) (j .1 .1)) .0)) $
         assigns ! (of-opd ! (load ! (from ! (fld ! refl (stop !))) (look-in ! 14 (sub ! 1 refl (whole !))))) (from ! (stop !)) (init ! 20 refl (LL.lawful K.the-type K′.the-laws 𝓤 H A W .typed (moveOf h .tick) _ (moved-tick (moveOf h) (j .1 .1)) .0)) $
         forget ! 4 refl $ forget ! 14 refl $ ends (moveOf h) refl (j .1 .1) refl)))
         (λ no. skips ! $ exec ! C Λ En mir′.t-7 (atRet En Post) $
-        assigns ! (of-opd ! (load ! (from ! (fld ! refl (fld ! refl (stop !)))) (look-in ! 16 (sub ! 0 refl (sub ! 1 refl (whole !)))))) (from ! (hop ! (look ! 18 refl) (fld ! refl (stop !)))) (store-in ! 0 (sub ! 3 refl (whole !)) (LL.lawful S.the-type S′.the-laws 𝓤 H A W .typed (fast .moved .state) _ (moved-state (fast .moved) is) .0)) $
+        assigns ! (of-opd ! (load ! (from ! (fld ! refl (fld ! refl (stop !)))) (look-in ! 16 (sub ! 0 refl (sub ! 1 refl (whole !)))))) (from ! (hop ! (look ! 18 refl) (fld ! refl (stop !)))) (store-in ! 0 (sub ! 4 refl (whole !)) (LL.lawful S.the-type S′.the-laws 𝓤 H A W .typed (fast .moved .state) _ (moved-state (fast .moved) is) .0)) $
         assigns ! (of-opd ! (load ! (from ! (fld ! refl (fld ! refl (stop !)))) (look-in ! 16 (sub ! 1 refl (sub ! 1 refl (whole !)))))) (from ! (stop !)) (init ! 20 refl (LL.lawful K.the-type K′.the-laws 𝓤 H A W .typed (fast .moved .tick) _ (moved-tick (fast .moved) is) .0)) $
         ends (fast .moved) (quiet-fast h (off (fast .busy) no)) is refl)
 
@@ -226,7 +226,7 @@ module _ {M : Type 1} (𝓤 : URA M) (H : Heap 𝓤) (A : Atoms 𝓤) (W : Given
         move ! (1 ∷ []) $ facts ! L.the-row (Is L.the-row) (shows 𝓤 H A L.the-row) h (line-val h ∷ []) (λ was.
         use1 W (‵ (fat fullShare L′.mir b o (line-val h))) (W .laws .raw-at fullShare L′.mir b o (line-val h)) $
         -- [0 the line's cell; the open borrow; obs; auth; 4 _8; …]: three fields are read where they lie
-        assigns ! (of-opd ! (load ! (from ! (hop ! (look ! 18 refl) (fld ! refl (stop !)))) (look-in ! 0 (sub ! 3 refl (whole !))))) (from ! (stop !)) (init ! 12 refl (LL.lawful S.the-type S′.the-laws 𝓤 H A W .typed (h .state) _ (state-of h was) .0)) $
+        assigns ! (of-opd ! (load ! (from ! (hop ! (look ! 18 refl) (fld ! refl (stop !)))) (look-in ! 0 (sub ! 4 refl (whole !))))) (from ! (stop !)) (init ! 12 refl (LL.lawful S.the-type S′.the-laws 𝓤 H A W .typed (h .state) _ (state-of h was) .0)) $
         assigns ! (of-opd ! (load ! (from ! (hop ! (look ! 18 refl) (fld ! refl (stop !)))) (look-in ! 0 (sub ! 0 refl (whole !))))) (from ! (stop !)) (init ! 10 refl (tt, record { fits = pulse-fits h was })) $
         assigns ! (of-opd ! (load ! (from ! (hop ! (look ! 18 refl) (fld ! refl (stop !)))) (look-in ! 0 (sub ! 1 refl (whole !))))) (from ! (stop !)) (init ! 8 refl (tt, record { fits = spacing-fits h was })) $
         owned ! u32 (Is u32) (uint-makes 𝓤 H A W w32) (h .spacing) _ (refl, spacing-fits h was) $ owned ! u32 (Is u32) (uint-makes 𝓤 H A W w32) (h .pulse) _ (refl, pulse-fits h was) $
