@@ -1,7 +1,9 @@
--- A call is accepted exactly when no cause to refuse it applies, and else gets the lowest number that applies.
+-- A call is accepted exactly when no cause to refuse it applies, and else gets the lowest number that applies. A commit
+-- has causes of its own, which stand before those of its descriptor: what it is answered is in Tickets.
 use mathlib.Core.Path.{_≡_, refl}
 use mathlib.Core.Bool.{Bool}
 use mathlib.Core.List.{List, []}
+use mathlib.Core.Option.{none, some}
 use Prim.Native.Nat.{ℕ, _≤_}
 use native.Mathlib.Omega.{arith}
 use Rattle.slots.specs.Slots.{runsEndless}
@@ -9,23 +11,38 @@ use Rattle.descriptor.specs.Refusals.{refusalNumber, Cause, ruling}
 use Rattle.descriptor.specs.declared.Refusal.{Refusal}
 use Rattle.descriptor.specs.Cancelled.{cancelledBy}
 use Rattle.descriptor.proofs.Table.{Applies, Ascending, none-applies, refused-applies, refused-lowest, descriptor-ascends, period-ascends}
-use Rattle.grammar.specs.Meaning.{unreadable, senseless, descriptor}
+use Rattle.grammar.specs.Meaning.{Reading, unreadable, senseless, descriptor}
 use Rattle.demand.specs.Names.{Ruling, Allowed, TurnedDown}
-use Rattle.demand.specs.Calls.{Call, describe, hook, period, noPeriod, audit, tick, Answer, accepted, refused, counters, ticked, Entry, asks, causes}
-use Rattle.demand.specs.History.{ticks, burstIn, owed, burstRuns, running}
+use Rattle.demand.specs.Calls.{Call, describe, ask, hook, period, noPeriod, audit, tick, Answer, accepted, refused, asked, counters, ticked, Entry, asks, readingCauses, causes}
+use Rattle.demand.specs.History.{ticks, burstIn, owed, burstRuns, running, serialIn}
 use Rattle.demand.specs.Answers.{rulingAfter, answerAfter}
 use Rattle.demand.proofs.AnswerKinds.{ruledAnswer}
 
--- the causes of every call stand in the order of their numbers
-pub causes-ascend : (S : ℕ) (e b : Bool) (c : Call) → Ascending 0 (causes S e b c)
-causes-ascend S e b (describe unreadable) = (omega arith, tt)
-causes-ascend S e b (describe senseless) = (omega arith, tt)
-causes-ascend S e b (describe (descriptor t ls p)) = descriptor-ascends S e b t ls p
-causes-ascend S e b (hook event) = tt
-causes-ascend S e b (period rp) = period-ascends rp
-causes-ascend S e b noPeriod = tt
-causes-ascend S e b audit = tt
-causes-ascend S e b tick = tt
+-- every call but a commit: its causes stand in the order of their numbers
+abbrev pub Ordered : Call → Type 0
+Ordered (describe none d) = Unit {0}
+Ordered (describe (some ticket) d) = ⊥
+Ordered (ask d) = Unit {0}
+Ordered (hook event) = Unit {0}
+Ordered (period rp) = Unit {0}
+Ordered noPeriod = Unit {0}
+Ordered audit = Unit {0}
+Ordered tick = Unit {0}
+
+reading-ascends : (S : ℕ) (e b : Bool) (d : Reading) → Ascending 0 (readingCauses S e b d)
+reading-ascends S e b unreadable = (omega arith, tt)
+reading-ascends S e b senseless = (omega arith, tt)
+reading-ascends S e b (descriptor t ls p) = descriptor-ascends S e b t ls p
+
+pub causes-ascend : (S : ℕ) (e b : Bool) (serial : ℕ) (c : Call) → Ordered c → Ascending 0 (causes S e b serial c)
+causes-ascend S e b serial (describe none d) o = reading-ascends S e b d
+causes-ascend S e b serial (describe (some ticket) d) o = absurd o
+causes-ascend S e b serial (ask d) o = tt
+causes-ascend S e b serial (hook event) o = tt
+causes-ascend S e b serial (period rp) o = period-ascends rp
+causes-ascend S e b serial noPeriod o = tt
+causes-ascend S e b serial audit o = tt
+causes-ascend S e b serial tick o = tt
 
 abbrev pub NoCause : List Cause → Type 0
 NoCause cs = (r : Refusal) → Applies r cs → ⊥
@@ -41,6 +58,7 @@ pub record Lowest (n : ℕ) (cs : List Cause) : Type 0 where
 abbrev pub Judged : List Cause → Answer → Type 0
 Judged cs (accepted k) = NoCause cs
 Judged cs (refused n) = Lowest n cs
+Judged cs (asked would ticket) = NoCause cs
 Judged cs (counters cpc pcslr) = NoCause cs
 Judged cs (ticked t) = NoCause cs
 
@@ -51,16 +69,17 @@ ruled-judged cs k a (TurnedDown r) e =
 
 module _ (D S : ℕ) (h : List Entry) where
   abbrev pub causesAfter : Call → List Cause
-  causesAfter c = causes S (runsEndless (running D S h)) (burstRuns D (burstIn h) (ticks h)) c
+  causesAfter c = causes S (runsEndless (running D S h)) (burstRuns D (burstIn h) (ticks h)) (serialIn h) c
 
-  command-judged : (c : Call) → Judged (causesAfter c) (ruledAnswer (rulingAfter D S h c) (cancelledBy (asks c .burst) (owed h)))
-  command-judged c = ruled-judged (causesAfter c) _ (causes-ascend S _ _ c) (rulingAfter D S h c) refl
+  command-judged : (c : Call) → Ordered c → Judged (causesAfter c) (ruledAnswer (rulingAfter D S h c) (cancelledBy (asks c .burst) (owed h)))
+  command-judged c o = ruled-judged (causesAfter c) _ (causes-ascend S _ _ (serialIn h) c o) (rulingAfter D S h c) refl
 
-  pub judged : (c : Call) → Judged (causesAfter c) (answerAfter D S h c)
+  pub judged : (c : Call) → Ordered c → Judged (causesAfter c) (answerAfter D S h c)
   unfolding answerAfter ruling
-  judged (describe d) = command-judged (describe d)
-  judged (hook event) = command-judged (hook event)
-  judged (period rp) = command-judged (period rp)
-  judged noPeriod = command-judged noPeriod
-  judged audit = none-applies [] refl
-  judged tick = none-applies [] refl
+  judged (describe k d) o = command-judged (describe k d) o
+  judged (ask d) o = none-applies [] refl
+  judged (hook event) o = command-judged (hook event) o
+  judged (period rp) o = command-judged (period rp) o
+  judged noPeriod o = command-judged noPeriod o
+  judged audit o = none-applies [] refl
+  judged tick o = none-applies [] refl

@@ -2,6 +2,7 @@
 use mathlib.Core.Path.{_≡_, refl}
 use mathlib.Core.Bool.{Bool, true, false, cond, not, _&&_, and-eq-true-iff, and-false}
 use mathlib.Core.List.{List, [], _∷_}
+use mathlib.Core.Option.{Option}
 use Prim.Native.Nat.{ℕ, zero, suc, _+_, _*_, _≤_, _<_}
 use native.Mathlib.Nat.{div-le-self}
 use native.Mathlib.Omega.{arith}
@@ -19,18 +20,18 @@ use Rattle.phase_lists.specs.Lists.{Lists, phasesOf, soundLists}
 use Rattle.phase_lists.specs.Tables.{eightOf}
 use Rattle.descriptor.specs.Refusals.{ruling, soundConfiguration, tariffCauses, burstCauses}
 use Rattle.burst.specs.Bursts.{isRunning, heldMore, agedOf, isDue}
-use Rattle.descriptor.specs.Cancelled.{cancelledBy}
 use Rattle.ticking.specs.Rules.{frontAt}
 use Rattle.ticking.specs.Moves.{sinceFront, movedBy}
-use Rattle.line.specs.Lines.{blankLine, makeOf, describeOf, hookOf, periodOf, noPeriodOf, auditOf, answeredBy, tariffChanged, burstChanged, withPeriod, moveOf, tickOf}
+use Rattle.line.specs.Lines.{blankLine, makeOf, withSerial, askOf, hookOf, periodOf, noPeriodOf, auditOf, answeredBy, tariffChanged, burstChanged, withPeriod, moveOf, tickOf}
 use Rattle.line.specs.declared.Line.{Line}
-use Rattle.grammar.specs.Meaning.{unreadable, senseless, descriptor}
+use Rattle.grammar.specs.Meaning.{Reading, unreadable, senseless, descriptor}
 use Rattle.demand.specs.Names.{Front, NoFront, TariffFront, BurstFront, Phase, TariffPart, NoTariff, KeepTariff, Rate, Em, Phased, BurstPart, NoBurst, KeepBurst, Start, KeepHook, Stop, Ruling, Allowed, TurnedDown}
-use Rattle.demand.specs.Calls.{Call, describe, hook, period, noPeriod, audit, tick, Answer, ticked, Entry, asks}
+use Rattle.demand.specs.Calls.{Call, describe, ask, hook, period, noPeriod, audit, tick, Answer, ticked, Entry, asks}
 use Rattle.demand.specs.History.{granted, frontOf, sum, ticks}
 use Rattle.demand.specs.Machine.{rulingOf, Outcome, outcome, answered, step, Past, past, noted, afterCalls, entries, history}
 use Rattle.phase_lists.proofs.PhaseTables.{phases-length, lists-length}
 use Rattle.descriptor.proofs.Causes.{none-first, none-after}
+use Rattle.demand.proofs.Described.{describedBy, describe-step, allowed-reading, unreadable-refused, senseless-refused}
 use Rattle.demand.proofs.Bounds.{since-bounded}
 
 -- a line of the largest spacing, with no tariff, at most i ticks after a front
@@ -86,6 +87,9 @@ module _ (i : ℕ) where
   burst-quiet KeepBurst l x = x
   burst-quiet (Start n P) l x = record { spacing = x .spacing; tariff = x .tariff; wait = x .wait; since = x .since }
 
+  with-serial : {n : ℕ} (l : Line) → Quiet i l → Quiet i (withSerial l n)
+  with-serial l x = record { spacing = x .spacing; tariff = x .tariff; wait = x .wait; since = x .since }
+
   -- ---- a tick
   front-due : (l : Line) → Quiet i l → i + 1 < 4294967295 → moveOf l .tick .front ≡ NoFront
   unfolding movedBy stepOf dueOf
@@ -105,15 +109,17 @@ abbrev QuietPast : Past → Type 0
 QuietPast (past h l) = ticks h < 4294967295 → Quiet (ticks h) l × (fronts h ≡ 0)
 
 module _ (h : List Entry) (l : Line) (x : QuietPast (past h l)) where
-  described : (t : TariffPart) (ls : Lists) (p : BurstPart) (u : Ruling) → rulingOf l (describe (descriptor t ls p)) ≡ u →
-      QuietPast (noted h (describe (descriptor t ls p)) (answered (answeredBy u l (burstChanged p (tariffChanged t (length (phasesOf ls)) (eightOf (phasesOf ls)) l)) (cancelledBy p (l .state .burst .owed)))))
+  described : (k : Option ℕ) (d : Reading) (u : Ruling) → rulingOf l (describe k d) ≡ u → QuietPast (noted h (describe k d) (answered (describedBy u d l)))
   unfolding ticks sum
-  described t ls p (TurnedDown r) e = λ early. (x early .0, omega (arith, x early .1))
-  described t ls p Allowed e = λ early.
+  described k d (TurnedDown r) e = λ early. (x early .0, omega (arith, x early .1))
+  described k unreadable Allowed e = absurd (unreadable-refused (l .spacing) _ _ (allowed-reading (l .spacing) _ _ (l .serial) k unreadable e))
+  described k senseless Allowed e = absurd (senseless-refused (l .spacing) _ _ (allowed-reading (l .spacing) _ _ (l .serial) k senseless e))
+  described k (descriptor t ls p) Allowed e = λ early.
       let endless : Bool = isEndless (l .state .tariff) in
       let running : Bool = isRunning (l .state .burst) in
-      let free = none-after (tariffCauses (l .spacing) endless running t ls) (burstCauses (l .spacing) endless running p) e .0 in
-      (burst-quiet (ticks h) p (tariffChanged t (length (phasesOf ls)) (eightOf (phasesOf ls)) l) (tariff-quiet (ticks h) endless running t ls l free (x early .0)), omega (arith, x early .1))
+      let own = allowed-reading (l .spacing) endless running (l .serial) k (descriptor t ls p) e in
+      let free = none-after (tariffCauses (l .spacing) endless running t ls) (burstCauses (l .spacing) endless running p) own .0 in
+      (with-serial (ticks h) _ (burst-quiet (ticks h) p (tariffChanged t (length (phasesOf ls)) (eightOf (phasesOf ls)) l) (tariff-quiet (ticks h) endless running t ls l free (x early .0))), omega (arith, x early .1))
 
   ruled : (n : ℕ) (u : Ruling) → QuietPast (noted h (period n) (answered (answeredBy u l (withPeriod l n) 0)))
   unfolding ticks sum
@@ -123,11 +129,10 @@ module _ (h : List Entry) (l : Line) (x : QuietPast (past h l)) where
       (record { spacing = y .spacing; tariff = y .tariff; wait = y .wait; since = y .since }, omega (arith, x early .1))
 
   call-quiet : (c : Call) → QuietPast (noted h c (step l c))
-  unfolding ticks sum step describeOf hookOf periodOf noPeriodOf auditOf tickOf
-  call-quiet (describe unreadable) = λ early. (x early .0, omega (arith, x early .1))
-  call-quiet (describe senseless) = λ early. (x early .0, omega (arith, x early .1))
-  call-quiet (describe (descriptor t ls p)) = described t ls p (rulingOf l (describe (descriptor t ls p))) refl
-  call-quiet (hook KeepHook) = λ early. (x early .0, omega (arith, x early .1))
+  unfolding ticks sum step askOf hookOf periodOf noPeriodOf auditOf tickOf
+  call-quiet (describe k d) = rw (describe-step l k d) (described k d (rulingOf l (describe k d)) refl)
+  call-quiet (ask d) = λ early. (x early .0, omega (arith, x early .1))
+  call-quiet (hook KeepHook) = λ early. (with-serial (ticks h) l (x early .0), omega (arith, x early .1))
   call-quiet (hook Stop) = λ early. (record { spacing = x early .0 .spacing; tariff = refl; wait = refl; since = x early .0 .since }, omega (arith, x early .1))
   call-quiet (period n) = ruled n (rulingOf l (period n))
   call-quiet noPeriod = ruled 0 Allowed

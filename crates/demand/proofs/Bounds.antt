@@ -3,6 +3,7 @@
 use mathlib.Core.Path.{_≡_, refl}
 use mathlib.Core.Bool.{Bool, not, _&&_, and-eq-true-iff}
 use mathlib.Core.List.{List}
+use mathlib.Core.Option.{Option}
 use Prim.Native.Nat.{ℕ, _^_, _≤_, _<_}
 use native.Mathlib.Omega.{arith}
 use borrow.Author.Tests.{leb-true, not-false}
@@ -33,15 +34,15 @@ use Rattle.state.specs.Rules.{oneMore, reportDue}
 use Rattle.state.specs.States.{countOf, countBy}
 use Rattle.state.specs.declared.Counters.{Counters}
 use Rattle.state.specs.declared.State.{State}
-use Rattle.descriptor.specs.Cancelled.{cancelledBy}
 use Rattle.ticking.specs.Rules.{frontAt}
 use Rattle.ticking.specs.Moves.{sinceFront, burstAfter, movedBy}
-use Rattle.line.specs.Lines.{freshLine, describeOf, hookOf, periodOf, noPeriodOf, auditOf, answeredBy, tariffChanged, burstChanged, withPeriod, tickOf}
+use Rattle.line.specs.Lines.{freshLine, withSerial, askOf, hookOf, periodOf, noPeriodOf, auditOf, answeredBy, tariffChanged, burstChanged, withPeriod, tickOf}
 use Rattle.line.specs.declared.Line.{Line}
-use Rattle.grammar.specs.Meaning.{unreadable, senseless, descriptor}
-use Rattle.demand.specs.Calls.{Call, describe, hook, period, noPeriod, audit, tick, Entry}
+use Rattle.grammar.specs.Meaning.{Reading, unreadable, senseless, descriptor}
+use Rattle.demand.specs.Calls.{Call, describe, ask, hook, period, noPeriod, audit, tick, Entry}
 use Rattle.demand.specs.Machine.{rulingOf, Outcome, outcome, answered, step}
 use Rattle.descriptor.proofs.Causes.{none-first, none-after}
+use Rattle.demand.proofs.Described.{describedBy, describe-step, allowed-reading}
 use Rattle.demand.proofs.Coupled.{Config}
 use Rattle.demand.proofs.Run.{Run, begin, more}
 
@@ -62,6 +63,7 @@ pub record StateBounded (S : ℕ) (s : State) : Type 0 where
 
 pub record Bounded (l : Line) : Type 0 where
   pub spacing : l .spacing ≤ 1000
+  pub serial : l .serial ≤ 4294967295
   pub state : StateBounded (l .spacing) (l .state)
 
 no-burst : BurstBounded noBurst
@@ -70,12 +72,12 @@ no-burst = omega arith
 -- ---- commands
 tariff-bounded : (t : TariffPart) (ps : List Phase) (l : Line) → Bounded l → Bounded (tariffChanged t (length ps) (eightOf ps) l)
 unfolding tariffChanged
-tariff-bounded NoTariff ps l x = record { spacing = x .spacing; state = record { clock = x .state .clock; since = x .state .since; burst = x .state .burst; counters = x .state .counters } }
+tariff-bounded NoTariff ps l x = record { spacing = x .spacing; serial = x .serial; state = record { clock = x .state .clock; since = x .state .since; burst = x .state .burst; counters = x .state .counters } }
 tariff-bounded KeepTariff ps l x = x
-tariff-bounded (Rate P) ps l x = record { spacing = x .spacing; state = record { clock = x .state .clock; since = x .state .since; burst = x .state .burst; counters = x .state .counters } }
+tariff-bounded (Rate P) ps l x = record { spacing = x .spacing; serial = x .serial; state = record { clock = x .state .clock; since = x .state .since; burst = x .state .burst; counters = x .state .counters } }
 tariff-bounded (Em C P) ps l x =
-    record { spacing = x .spacing; state = record { clock = x .state .clock; since = x .state .since; burst = x .state .burst; counters = record { cpc = omega arith; pcslr = omega arith } } }
-tariff-bounded Phased ps l x = record { spacing = x .spacing; state = record { clock = x .state .clock; since = x .state .since; burst = x .state .burst; counters = x .state .counters } }
+    record { spacing = x .spacing; serial = x .serial; state = record { clock = x .state .clock; since = x .state .since; burst = x .state .burst; counters = record { cpc = omega arith; pcslr = omega arith } } }
+tariff-bounded Phased ps l x = record { spacing = x .spacing; serial = x .serial; state = record { clock = x .state .clock; since = x .state .since; burst = x .state .burst; counters = x .state .counters } }
 
 -- a start that is allowed is within its ends
 abbrev Allows : BurstPart → Type 0
@@ -92,11 +94,12 @@ allows S e b (Start n P) h =
 
 burst-bounded : (p : BurstPart) (l : Line) → Allows p → Bounded l → Bounded (burstChanged p l)
 unfolding burstChanged
-burst-bounded NoBurst l h x = record { spacing = x .spacing; state = record { clock = x .state .clock; since = x .state .since; burst = no-burst; counters = x .state .counters } }
+burst-bounded NoBurst l h x = record { spacing = x .spacing; serial = x .serial; state = record { clock = x .state .clock; since = x .state .since; burst = no-burst; counters = x .state .counters } }
 burst-bounded KeepBurst l h x = x
 burst-bounded (Start n P) l h x =
     record {
       spacing = x .spacing;
+      serial = x .serial;
       state =
           record {
             clock = x .state .clock;
@@ -109,19 +112,27 @@ burst-bounded (Start n P) l h x =
 abbrev OutcomeBounded : Outcome → Type 0
 OutcomeBounded (outcome a l) = Bounded l
 
-described : (t : TariffPart) (ls : Lists) (p : BurstPart) (l : Line) (u : Ruling) → rulingOf l (describe (descriptor t ls p)) ≡ u → Bounded l →
-    OutcomeBounded (answered (answeredBy u l (burstChanged p (tariffChanged t (length (phasesOf ls)) (eightOf (phasesOf ls)) l)) (cancelledBy p (l .state .burst .owed))))
-described t ls p l (TurnedDown r) e x = x
-described t ls p l Allowed e x =
-    let endless = isEndless (l .state .tariff) in
-    let running = isRunning (l .state .burst) in
-    let free = none-after (tariffCauses (l .spacing) endless running t ls) (burstCauses (l .spacing) endless running p) e in
-    burst-bounded p (tariffChanged t (length (phasesOf ls)) (eightOf (phasesOf ls)) l) (allows (l .spacing) endless running p (free .1)) (tariff-bounded t (phasesOf ls) l x)
+-- an accepted command leaves the serial held
+accepted-bounded : (l : Line) → Bounded l → Bounded (withSerial l (oneMore (l .serial)))
+accepted-bounded l x = record { spacing = x .spacing; serial = omega arith; state = x .state }
+
+described : (k : Option ℕ) (d : Reading) (l : Line) (u : Ruling) → rulingOf l (describe k d) ≡ u → Bounded l → OutcomeBounded (answered (describedBy u d l))
+described k d l (TurnedDown r) e x = x
+described k unreadable l Allowed e x = accepted-bounded l x
+described k senseless l Allowed e x = accepted-bounded l x
+described k (descriptor t ls p) l Allowed e x =
+    let endless : Bool = isEndless (l .state .tariff) in
+    let running : Bool = isRunning (l .state .burst) in
+    let own = allowed-reading (l .spacing) endless running (l .serial) k (descriptor t ls p) e in
+    let free = none-after (tariffCauses (l .spacing) endless running t ls) (burstCauses (l .spacing) endless running p) own in
+    accepted-bounded _ (burst-bounded p (tariffChanged t (length (phasesOf ls)) (eightOf (phasesOf ls)) l) (allows (l .spacing) endless running p (free .1)) (tariff-bounded t (phasesOf ls) l x))
 
 ruled : (n : ℕ) (l : Line) (u : Ruling) → Bounded l → OutcomeBounded (answered (answeredBy u l (withPeriod l n) 0))
 ruled n l Allowed x =
-    record {
+    accepted-bounded (withPeriod l n)
+    (record {
       spacing = x .spacing;
+      serial = x .serial;
       state =
           record {
             clock = x .state .clock;
@@ -129,7 +140,7 @@ ruled n l Allowed x =
             burst = x .state .burst;
             counters = record { cpc = x .state .counters .cpc; pcslr = x .state .counters .pcslr };
           };
-    }
+    })
 ruled n l (TurnedDown r) x = x
 
 -- ---- a tick
@@ -171,6 +182,7 @@ tick-bounded l x =
     let f : Front = frontAt (t .slot) (isDue (b .burst) && (leb (l .spacing) since && roomOf (l .spacing) (t .tariff) (t .wait))) in
     record {
       spacing = x .spacing;
+      serial = x .serial;
       state =
           record {
             clock = omega arith;
@@ -182,12 +194,11 @@ tick-bounded l x =
 
 -- ---- every call
 step-bounded : (l : Line) → Bounded l → (c : Call) → OutcomeBounded (step l c)
-unfolding step describeOf hookOf periodOf noPeriodOf auditOf
-step-bounded l x (describe unreadable) = x
-step-bounded l x (describe senseless) = x
-step-bounded l x (describe (descriptor t ls p)) = described t ls p l (rulingOf l (describe (descriptor t ls p))) refl x
-step-bounded l x (hook Keep) = x
-step-bounded l x (hook Stop) = record { spacing = x .spacing; state = record { clock = x .state .clock; since = x .state .since; burst = no-burst; counters = x .state .counters } }
+unfolding step askOf hookOf periodOf noPeriodOf auditOf
+step-bounded l x (describe k d) = rw (describe-step l k d) (described k d l (rulingOf l (describe k d)) refl x)
+step-bounded l x (ask d) = x
+step-bounded l x (hook Keep) = accepted-bounded l x
+step-bounded l x (hook Stop) = accepted-bounded _ (record { spacing = x .spacing; serial = x .serial; state = record { clock = x .state .clock; since = x .state .since; burst = no-burst; counters = x .state .counters } })
 step-bounded l x (period n) = ruled n l (rulingOf l (period n)) x
 step-bounded l x noPeriod = ruled 0 l Allowed x
 step-bounded l x audit = x
@@ -200,5 +211,5 @@ module _ (D S clock : ℕ) (cfg : Config D S) (small : clock < 2 ^ 32) where
   pub bounded : {h : List Entry} {l : Line} → Run D S clock cfg h l → Bounded l
   unfolding freshLine
   bounded begin =
-      record { spacing = cfg .most; state = record { clock = small; since = omega arith; burst = no-burst; counters = record { cpc = omega arith; pcslr = omega arith } } }
+      record { spacing = cfg .most; serial = omega arith; state = record { clock = small; since = omega arith; burst = no-burst; counters = record { cpc = omega arith; pcslr = omega arith } } }
   bounded (more {l = l} {l′ = l′} {c = c} {a = a} r e) = bounded-outcome (step l c) (outcome a l′) e (step-bounded l (bounded r) c)

@@ -1,4 +1,4 @@
--- The coupling of a line with its history: each field is the bounded form of what the history says.
+-- The coupling of a line with its history: each field but the serial is the bounded form of what the history says.
 use mathlib.Core.Path.{_≡_}
 use mathlib.Core.Bool.{true}
 use mathlib.Core.List.{List}
@@ -8,6 +8,7 @@ use Rattle.tariff.specs.declared.Tariff.{Tariff}
 use Rattle.slots.specs.Slots.{Running}
 use Rattle.burst.specs.declared.Burst.{Burst}
 use Rattle.burst.specs.Bursts.{noBurst, burstWith}
+use Rattle.line.specs.Lines.{withSerial}
 use Rattle.line.specs.declared.Line.{Line}
 use Rattle.demand.specs.Calls.{Entry}
 use Rattle.demand.specs.History.{Last, at, Started, idle, started, pulseOn, ticks, lastFront, burstIn, running, sinceReport, periodIn}
@@ -36,13 +37,17 @@ module _ (D S i : ℕ) where
 module _ (D S clock : ℕ) where
   -- after i ticks, by what the history says then
   pub data At (i : ℕ) (last : Last) (b : Started) (r : Running) (cpc pcslr rp : ℕ) : Line → Type 0 where
-    line-at : {v w : ℕ} {t : Tariff} {ps : List Phase} {n : ℕ} {u : Burst} → v ≡ heldSince S last i → Before last i → Agree D ps n r t w i → Good S ps n t w → BurstAt D S i b u → Apart S v (nextOf t w) →
+    line-at : {v w : ℕ} {t : Tariff} {ps : List Phase} {n k : ℕ} {u : Burst} → v ≡ heldSince S last i → Before last i → Agree D ps n r t w i → Good S ps n t w → BurstAt D S i b u → Apart S v (nextOf t w) →
         At i last b r cpc pcslr rp
-        (record { pulse = D; spacing = S; count = n; state = record { wait = w; clock = (clock + i) % 2 ^ 32; since = v; tariff = t; burst = u; counters = record { cpc = cpc; pcslr = pcslr; rp = rp } }; phases = ps })
+        (record { pulse = D; spacing = S; count = n; serial = k; state = record { wait = w; clock = (clock + i) % 2 ^ 32; since = v; tariff = t; burst = u; counters = record { cpc = cpc; pcslr = pcslr; rp = rp } }; phases = ps })
 
   -- the total counter in another form
   pub with-total : {i : ℕ} {last : Last} {b : Started} {r : Running} {cpc same pcslr rp : ℕ} {l : Line} → cpc ≡ same → At i last b r cpc pcslr rp l → At i last b r same pcslr rp l
   with-total e x = rw e at x
+
+  -- whatever the serial is
+  pub serial-at : {i : ℕ} {last : Last} {b : Started} {r : Running} {cpc pcslr rp : ℕ} {l : Line} (n : ℕ) → At i last b r cpc pcslr rp l → At i last b r cpc pcslr rp (withSerial l n)
+  serial-at n (line-at e before a g x y) = line-at e before a g x y
 
   abbrev pub Coupled : List Entry → Line → Type 0
   Coupled h l = At (ticks h) (lastFront h) (burstIn h) (running D S h) (total h) (sinceReport h) (periodIn h) l

@@ -29,8 +29,8 @@ use Rattle.demand.specs.Answers.{answerAfter}
 use Rattle.demand.specs.Machine.{entryFor, Outcome, outcome, step, Past, past, noted, afterCall, afterCalls, entries, lineAfter, history}
 use Rattle.demand.specs.Demand.{EndAnswers, Follows, Demand3}
 use Rattle.demand.proofs.Coupled.{Config}
-use Rattle.demand.proofs.AnswerKinds.{Kind, to-command, to-audit, to-tick, kind}
-use Rattle.demand.proofs.Run.{Run, coupled, answer-right, step-right, Right, clock-agrees, on-agrees, reads, run-history, cut}
+use Rattle.demand.proofs.AnswerKinds.{Kind, to-command, to-ask, to-audit, to-tick, kind}
+use Rattle.demand.proofs.Run.{Run, coupled, serial-is, answer-right, step-right, Right, clock-agrees, on-agrees, reads, run-history, cut}
 use Rattle.demand.proofs.Sum.{sum-run}
 use Rattle.demand.proofs.Bound.{bound}
 use Rattle.demand.proofs.Spacing.{spacing-run}
@@ -45,6 +45,7 @@ tariff-front Pulse may = (λ e. refl, λ e. refl)
 slot-front : (D S : ℕ) (h : List Entry) (c : Call) (a : Answer) → Kind D S h c a → unlessRefused a (asks c) .tick ≡ true → (told a .front ≡ TariffFront) ↔ (slotAt (running D S h) (ticks h + 1) ≡ Pulse)
 slot-front D S h c a (to-command Allowed f n) e = absurd (let o : _≡_ {A = ℕ} 0 1 = cc in omega arith)
 slot-front D S h c a (to-command (TurnedDown r) f n) e = absurd (let o : _≡_ {A = ℕ} 0 1 = cc in omega arith)
+slot-front D S h c a (to-ask n) e = absurd (let o : _≡_ {A = ℕ} 0 1 = cc in omega arith)
 slot-front D S h c a (to-audit n) e = absurd (let o : _≡_ {A = ℕ} 0 1 = cc in omega arith)
 slot-front D S h c a (to-tick n) e = tariff-front _ _
 
@@ -74,7 +75,7 @@ module _ (D S clock : ℕ) (cfg : Config D S) (small : clock < 2 ^ 32) where
   noted-end h c (outcome a l) r = (entryFor c a l, refl, r .0)
 
   call-end : (p : Past) (c : Call) → Run D S clock cfg (entries p) (lineAfter p) → Ends (entries p) c (afterCall p c)
-  call-end (past h l) c r = noted-end h c (step l c) (step-right D S clock cfg h (coupled D S clock cfg small r) c)
+  call-end (past h l) c r = noted-end h c (step l c) (step-right D S clock cfg h (coupled D S clock cfg small r) (serial-is D S clock cfg r) c)
 
 module _ (D G clock : ℕ) (sound : soundConfiguration D G ≡ true) (small : clock < 2 ^ 32) (cs : List Call) where
   abbrev S : ℕ

@@ -1,6 +1,7 @@
 -- What a call does to a line whose burst owes a pulse, in the numbers of the bound.
 use mathlib.Core.Path.{_≡_, refl, sym, ap, _∙_}
 use mathlib.Core.Bool.{Bool, true, false, _&&_, _||_, and-false}
+use mathlib.Core.Option.{Option}
 use Prim.Native.Nat.{ℕ, suc, _+_, _-_, _*_, _%_, _^_, min, _≤_}
 use native.Mathlib.Omega.{arith}
 use borrow.Author.Tests.{leb-false, eqb-false, ne-eqb, lt-ltb}
@@ -28,11 +29,11 @@ use Rattle.state.specs.States.{countBy}
 use Rattle.descriptor.specs.Cancelled.{cancelledBy}
 use Rattle.ticking.specs.Rules.{frontAt}
 use Rattle.ticking.specs.Moves.{sinceFront, burstAfter, movedBy}
-use Rattle.line.specs.Lines.{describeOf, hookOf, periodOf, noPeriodOf, auditOf, tickOf, onOf, answeredBy, tariffChanged, burstChanged, withState, withPeriod}
+use Rattle.line.specs.Lines.{askOf, hookOf, periodOf, noPeriodOf, auditOf, tickOf, onOf, answeredBy, tariffChanged, burstChanged, withState, withPeriod}
 use Rattle.line.specs.declared.Line.{Line}
 use Rattle.line.specs.declared.Ticked.{Ticked}
-use Rattle.grammar.specs.Meaning.{unreadable, senseless, descriptor}
-use Rattle.demand.specs.Calls.{Call, describe, hook, period, noPeriod, audit, tick, ticked, Entry, asks}
+use Rattle.grammar.specs.Meaning.{Reading, unreadable, senseless, descriptor}
+use Rattle.demand.specs.Calls.{Call, describe, ask, hook, period, noPeriod, audit, tick, ticked, Entry, asks}
 use Rattle.demand.specs.History.{granted, frontOf}
 use Rattle.demand.specs.Machine.{rulingOf, entryFor, Outcome, outcome, answered, step}
 use Rattle.demand.specs.Demand.{isFresh}
@@ -42,6 +43,7 @@ use Rattle.slots.proofs.Tick.{good-step, next-step}
 use Rattle.slots.proofs.Start.{next-rate}
 use Rattle.slots.proofs.Room.{room-next}
 use Rattle.demand.proofs.Coupled.{Config}
+use Rattle.demand.proofs.Described.{describedBy, describe-step, allowed-reading, unreadable-refused, senseless-refused}
 use Rattle.demand.proofs.Taken.{starts-idle}
 use Rattle.demand.proofs.Potential.{Blocked, slot-near, front-near, own-near}
 
@@ -154,28 +156,30 @@ module _ (l : Line) (cfg : Config (l .pulse) (l .spacing)) (good : Good (l .spac
   abbrev pub EffectOf : Call → Outcome → Type 0
   EffectOf c (outcome a l′) = Effect S (l .state .since) (nextOf (l .state .tariff) (l .state .wait)) m g k (entryFor c a l′) l′
 
-  changed : (t : TariffPart) (ls : Lists) (b : BurstPart) (u : Ruling) → rulingOf l (describe (descriptor t ls b)) ≡ u →
-      EffectOf (describe (descriptor t ls b)) (answered (answeredBy u l (burstChanged b (tariffChanged t (length (phasesOf ls)) (eightOf (phasesOf ls)) l)) (cancelledBy b (l .state .burst .owed))))
+  changed : (k′ : Option ℕ) (d : Reading) (u : Ruling) → rulingOf l (describe k′ d) ≡ u → EffectOf (describe k′ d) (answered (describedBy u d l))
   unfolding tariffChanged burstChanged
-  changed t ls b (TurnedDown r) e = stays refl refl refl refl owing
-  changed t ls NoBurst Allowed e = cancels refl
-  changed t ls (Start n P) Allowed e =
-      absurd (let running : isRunning (l .state .burst) ≡ true = rw owing (lt-ltb 0 g (omega arith)) in let idle = starts-idle S (isEndless (l .state .tariff)) (isRunning (l .state .burst)) t ls n P e in let o : _≡_ {A = ℕ} 0 1 = cc in omega arith)
-  changed NoTariff ls KeepBurst Allowed e = stops refl refl refl refl owing
-  changed KeepTariff ls KeepBurst Allowed e = stays refl refl refl refl owing
-  changed (Rate P) ls KeepBurst Allowed e = stays refl refl refl (next-rate P (l .state .tariff) (l .state .wait)) owing
-  changed (Em C P) ls KeepBurst Allowed e = begins refl refl refl refl owing
-  changed Phased ls KeepBurst Allowed e = begins refl refl refl refl owing
+  changed k′ d (TurnedDown r) e = stays refl refl refl refl owing
+  changed k′ unreadable Allowed e = absurd (unreadable-refused S _ _ (allowed-reading S _ _ (l .serial) k′ unreadable e))
+  changed k′ senseless Allowed e = absurd (senseless-refused S _ _ (allowed-reading S _ _ (l .serial) k′ senseless e))
+  changed k′ (descriptor t ls NoBurst) Allowed e = cancels refl
+  changed k′ (descriptor t ls (Start n P)) Allowed e =
+      let endless : Bool = isEndless (l .state .tariff) in
+      let runs : Bool = isRunning (l .state .burst) in
+      absurd (let running : runs ≡ true = rw owing (lt-ltb 0 g (omega arith)) in let idle = starts-idle S endless runs t ls n P (allowed-reading S endless runs (l .serial) k′ (descriptor t ls (Start n P)) e) in let o : _≡_ {A = ℕ} 0 1 = cc in omega arith)
+  changed k′ (descriptor NoTariff ls KeepBurst) Allowed e = stops refl refl refl refl owing
+  changed k′ (descriptor KeepTariff ls KeepBurst) Allowed e = stays refl refl refl refl owing
+  changed k′ (descriptor (Rate P) ls KeepBurst) Allowed e = stays refl refl refl (next-rate P (l .state .tariff) (l .state .wait)) owing
+  changed k′ (descriptor (Em C P) ls KeepBurst) Allowed e = begins refl refl refl refl owing
+  changed k′ (descriptor Phased ls KeepBurst) Allowed e = begins refl refl refl refl owing
 
   ruled : (n : ℕ) (u : Ruling) → EffectOf (period n) (answered (answeredBy u l (withPeriod l n) 0))
   ruled n Allowed = stays refl refl refl refl owing
   ruled n (TurnedDown r) = stays refl refl refl refl owing
 
   pub effect : (c : Call) → EffectOf c (step l c)
-  unfolding step describeOf hookOf periodOf noPeriodOf auditOf
-  effect (describe unreadable) = stays refl refl refl refl owing
-  effect (describe senseless) = stays refl refl refl refl owing
-  effect (describe (descriptor t ls b)) = changed t ls b (rulingOf l (describe (descriptor t ls b))) refl
+  unfolding step askOf hookOf periodOf noPeriodOf auditOf
+  effect (describe k′ d) = rw (describe-step l k′ d) (changed k′ d (rulingOf l (describe k′ d)) refl)
+  effect (ask d) = stays refl refl refl refl owing
   effect (hook Keep) = stays refl refl refl refl owing
   effect (hook Stop) = cancels refl
   effect (period n) = ruled n (rulingOf l (period n))

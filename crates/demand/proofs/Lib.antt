@@ -2,6 +2,8 @@
 pub mod Held
 pub mod Counts
 pub mod Counters
+pub mod Described
+pub mod Serials
 pub mod Coupled
 pub mod Commands
 pub mod Bursts

@@ -15,7 +15,7 @@ use Rattle.demand.specs.Calls.{Call, Answer, Entry, asks}
 use Rattle.demand.specs.History.{unlessRefused, told, frontOf, ticks, zeroedBy, sinceReport, periodIn}
 use Rattle.demand.specs.Answers.{tickAfter}
 use Rattle.demand.specs.Machine.{history}
-use Rattle.demand.proofs.AnswerKinds.{Kind, to-command, to-audit, to-tick, kind}
+use Rattle.demand.proofs.AnswerKinds.{Kind, to-command, to-ask, to-audit, to-tick, kind}
 use Rattle.demand.proofs.Demand.{demand3}
 
 -- a count that is held at its top is at or above every period that can be set
@@ -36,6 +36,7 @@ module _ (D S : ℕ) (h : List Entry) where
       zeroedBy (unlessRefused a (asks c) .tariff) (cond (told a .report) 0 (ifFront (told a .front) (oneMore (sinceReport h)) (sinceReport h))) < periodIn h
   kind-below c a (to-command Allowed e n) f set = absurd (omega arith)
   kind-below c a (to-command (TurnedDown r) e n) f set = absurd (omega arith)
+  kind-below c a (to-ask n) f set = absurd (omega arith)
   kind-below c a (to-audit n) f set = absurd (omega arith)
   kind-below c a (to-tick n) f set = rw n (front-below (tickAfter D S h (ticks h + 1) .front) (periodIn h) (oneMore (sinceReport h)) (sinceReport h) f set)
 

@@ -25,7 +25,7 @@ use Rattle.slots.proofs.Coupling.{agree-now}
 use Rattle.demand.proofs.Held.{heldSince, before-more, held-more, held-passed}
 use Rattle.demand.proofs.Counts.{ticks-least, ticks-most, ticks-append}
 use Rattle.demand.proofs.Coupled.{Config, line-at, Coupled}
-use Rattle.demand.proofs.AnswerKinds.{Kind, to-command, to-audit, to-tick, kind}
+use Rattle.demand.proofs.AnswerKinds.{Kind, to-command, to-ask, to-audit, to-tick, kind}
 use Rattle.demand.proofs.Run.{Run, more, coupled, answer-right}
 
 -- a slot due now was 1 tick away
@@ -57,6 +57,7 @@ module _ (D S clock : ℕ) (cfg : Config D S) where
         (passed S (lastFront h) (ticks h + 1) ≡ true) × (unlessRefused a (asks c) .tick ≡ true)
     front-passed h x c a (to-command Allowed e s) f = absurd (omega arith)
     front-passed h x c a (to-command (TurnedDown r) e s) f = absurd (omega arith)
+    front-passed h x c a (to-ask s) f = absurd (omega arith)
     front-passed h x c a (to-audit s) f = absurd (omega arith)
     front-passed h x c a (to-tick t) f = (due-passed h x _ _ refl refl f, ap (λ (y : Asked). y .tick) t)
 

@@ -20,12 +20,13 @@ use Rattle.ticking.specs.Rules.{frontAt}
 use Rattle.line.specs.Lines.{onOf}
 use Rattle.line.specs.declared.Line.{Line}
 use Rattle.grammar.specs.Meaning.{unreadable, senseless, descriptor}
-use Rattle.demand.specs.Calls.{Call, describe, hook, period, noPeriod, audit, tick, Answer, accepted, refused, counters, ticked, Entry, asks}
-use Rattle.demand.specs.History.{granted, frontOf, sum, ticks, acceptedPulses, begun, cancelled, at, passed, Started, idle, started, oneBegun, burstBy, burstIn, owedOf, owed, burstRuns, burstReady, running}
+use Rattle.demand.specs.Calls.{Call, describe, ask, hook, period, noPeriod, audit, tick, Answer, Entry, asks}
+use Rattle.demand.specs.History.{granted, frontOf, sum, ifAccepted, serialIn, ticks, acceptedPulses, begun, cancelled, at, passed, Started, idle, started, oneBegun, burstBy, burstIn, owedOf, owed, burstRuns, burstReady, running}
 use Rattle.demand.specs.Answers.{rulingAfter, burstMayStart}
 use Rattle.demand.proofs.Coupled.{Config}
+use Rattle.demand.proofs.Described.{allowed-reading}
 use Rattle.demand.proofs.Taken.{starts-idle}
-use Rattle.demand.proofs.AnswerKinds.{Kind, to-command, to-audit, to-tick, kind}
+use Rattle.demand.proofs.AnswerKinds.{Kind, to-command, to-ask, to-audit, to-tick, kind}
 use Rattle.demand.proofs.Run.{Run, begin, more, answer-right}
 
 -- a burst that does not run owes nothing
@@ -49,7 +50,7 @@ abbrev pulsesOf : BurstPart → ℕ
 pulsesOf b = elim b [ NoBurst ↦ 0 | KeepBurst ↦ 0 | Start n P ↦ n ]
 
 abbrev cancelledIn : Answer → ℕ
-cancelledIn a = elim a [ accepted k ↦ k | refused n ↦ 0 | counters m n ↦ 0 | ticked t ↦ 0 ]
+cancelledIn a = ifAccepted a (λ k. k)
 
 -- what an entry adds to each count of the sum, where b is the burst before it
 abbrev Balanced : Entry → ℕ → Started → Type 0
@@ -58,10 +59,13 @@ Balanced e now b = pulsesOf (granted e .burst) + owedOf b ≡ isBurstFront (fron
 module _ (D S : ℕ) (h : List Entry) (k : ℕ) (on : Bool) where
   -- a start is allowed only where nothing is owed
   start-owes : (c : Call) (n P : ℕ) → rulingAfter D S h c ≡ Allowed → asks c .burst ≡ Start n P → owed h ≡ 0
-  start-owes (describe unreadable) n P e f = absurd (let o : _≡_ {A = ℕ} 0 1 = cc in omega arith)
-  start-owes (describe senseless) n P e f = absurd (let o : _≡_ {A = ℕ} 0 1 = cc in omega arith)
-  start-owes (describe (descriptor t ls b)) n P e f =
-      idle-owes D (burstIn h) (ticks h) (starts-idle S (runsEndless (running D S h)) (burstRuns D (burstIn h) (ticks h)) t ls n P (rw f at e))
+  start-owes (describe k unreadable) n P e f = absurd (let o : _≡_ {A = ℕ} 0 1 = cc in omega arith)
+  start-owes (describe k senseless) n P e f = absurd (let o : _≡_ {A = ℕ} 0 1 = cc in omega arith)
+  start-owes (describe k (descriptor t ls b)) n P e f =
+      let endless : Bool = runsEndless (running D S h) in
+      let runs : Bool = burstRuns D (burstIn h) (ticks h) in
+      idle-owes D (burstIn h) (ticks h) (starts-idle S endless runs t ls n P (rw f at (allowed-reading S endless runs (serialIn h) k (descriptor t ls b) e)))
+  start-owes (ask d) n P e f = absurd (let o : _≡_ {A = ℕ} 0 1 = cc in omega arith)
   start-owes (hook Keep) n P e f = absurd (let o : _≡_ {A = ℕ} 0 1 = cc in omega arith)
   start-owes (hook Stop) n P e f = absurd (let o : _≡_ {A = ℕ} 0 1 = cc in omega arith)
   start-owes (period m) n P e f = absurd (let o : _≡_ {A = ℕ} 0 1 = cc in omega arith)
@@ -83,6 +87,7 @@ module _ (D S : ℕ) (h : List Entry) (k : ℕ) (on : Bool) where
   balanced : (c : Call) (a : Answer) → Kind D S h c a → Balanced (record { call = c; answer = a; clock = k; on = on }) (ticks h + 1) (burstIn h)
   balanced c a (to-command Allowed e s) = part-owes (asks c .burst) (λ n P f. start-owes c n P e f)
   balanced c a (to-command (TurnedDown r) e s) = omega arith
+  balanced c a (to-ask s) = rw s (omega arith)
   balanced c a (to-audit s) = rw s (omega arith)
   balanced c a (to-tick s) =
       rw s

@@ -72,7 +72,7 @@ module _ (D S clock : ℕ) (cfg : Config D S) where
   After i last b r cpc pcslr rp k l =
       At D S clock (i + 1) (ifFront (k .front) (at (i + 1)) last) (ifBurst (k .front) (oneBegun (i + 1) b) b) (cond (completesAt D r (i + 1)) nothing r) (counterAfter (k .front) cpc) (cond (k .report) 0 (counterAfter (k .front) pcslr)) rp l
 
-  module _ (i : ℕ) (last : Last) (b : Started) (r : Running) (cpc pcslr rp : ℕ) (t : Tariff) (w : ℕ) (ps : List Phase) (n : ℕ) (u : Burst)
+  module _ (i : ℕ) (last : Last) (b : Started) (r : Running) (cpc pcslr rp : ℕ) (t : Tariff) (w : ℕ) (ps : List Phase) (n k : ℕ) (u : Burst)
       (v : ℕ) (held : v ≡ heldSince S last i) (before : Before last i) (a : Agree D ps n r t w i) (g : Good S ps n t w) (x : BurstAt D S i b u) (y : Apart S v (nextOf t w)) where
     some : 1 ≤ S
     some = omega arith
@@ -117,6 +117,7 @@ module _ (D S clock : ℕ) (cfg : Config D S) where
           pulse = D;
           spacing = S;
           count = n;
+          serial = k;
           state =
               record {
                 wait = t′ .wait;
@@ -172,5 +173,5 @@ module _ (D S clock : ℕ) (cfg : Config D S) where
   pub tick-at : {i : ℕ} {last : Last} {b : Started} {r : Running} {cpc pcslr rp : ℕ} {l : Line} → At D S clock i last b r cpc pcslr rp l →
       (tickOf l .tick ≡ tickTold i last b r pcslr rp (frontDue i last b r)) × After i last b r cpc pcslr rp (tickOf l .tick) (tickOf l .line)
   unfolding tickOf movedBy
-  tick-at {i} {last} {b} {r} {cpc} {pcslr} {rp} (line-at {v = v} {w = w} {t = t} {ps = ps} {n = n} {u = u} e before a g x y) =
-      both i last b r cpc pcslr rp t w ps n u v e before a g x y
+  tick-at {i} {last} {b} {r} {cpc} {pcslr} {rp} (line-at {v = v} {w = w} {t = t} {ps = ps} {n = n} {k = k} {u = u} e before a g x y) =
+      both i last b r cpc pcslr rp t w ps n k u v e before a g x y

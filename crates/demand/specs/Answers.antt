@@ -1,13 +1,14 @@
 -- What the paper has each call answer, after a history.
 use mathlib.Core.Bool.{Bool, false, _&&_}
 use mathlib.Core.List.{List}
+use mathlib.Core.Option.{some}
 use Prim.Native.Nat.{ℕ, _+_, _-_, min}
 use Rattle.demand.specs.Names.{Tick, Ruling, Allowed, TurnedDown, cancelledBy, ifFront, ruling, refusalNumber}
 use Rattle.demand.specs.Names.{oneMore, reportDue, frontAt, slotAt, quietFor, completesAt, runsEndless}
-use Rattle.demand.specs.Calls.{Call, describe, hook, period, noPeriod, audit, tick, asks, causes, Entry}
-use Rattle.demand.specs.Calls.{Answer, accepted, refused, counters, ticked}
+use Rattle.demand.specs.Calls.{Call, describe, ask, hook, period, noPeriod, audit, tick, asks, causes}
+use Rattle.demand.specs.Calls.{Entry, Answer, accepted, refused, asked, counters, ticked}
 use Rattle.demand.specs.History.{ticks, lastFront, passed, burstIn, owed, burstCompletes, burstRuns, burstReady}
-use Rattle.demand.specs.History.{running, frontsSinceEm, sinceReport, periodIn}
+use Rattle.demand.specs.History.{running, frontsSinceEm, sinceReport, periodIn, serialIn}
 
 -- pulses of D ticks, fronts at least S apart
 module _ (D S : ℕ) (h : List Entry) where
@@ -28,7 +29,7 @@ module _ (D S : ℕ) (h : List Entry) where
 
   -- what the table of refusals makes of a command
   abbrev pub rulingAfter : Call → Ruling
-  rulingAfter c = ruling (causes S (runsEndless (running D S h)) (burstRuns D (burstIn h) (ticks h)) c)
+  rulingAfter c = ruling (causes S (runsEndless (running D S h)) (burstRuns D (burstIn h) (ticks h)) (serialIn h) c)
 
   -- the burst pulses cancelled, or the number of the refusal
   abbrev pub commandAnswer : Call → Answer
@@ -37,7 +38,8 @@ module _ (D S : ℕ) (h : List Entry) where
       [ Allowed ↦ accepted (cancelledBy (asks c .burst) (owed h)) | TurnedDown r ↦ refused (refusalNumber r) ]
 
   unfoldable pub answerAfter : Call → Answer
-  answerAfter (describe d) = commandAnswer (describe d)
+  answerAfter (describe ticket d) = commandAnswer (describe ticket d)
+  answerAfter (ask d) = asked (commandAnswer (describe (some (serialIn h)) d)) (serialIn h)
   answerAfter (hook event) = commandAnswer (hook event)
   answerAfter (period rp) = commandAnswer (period rp)
   answerAfter noPeriod = commandAnswer noPeriod

@@ -1,24 +1,28 @@
 -- The calls on a line, the record of a call, and of each call what it asks and what it may be refused for.
 use mathlib.Core.Bool.{Bool, true, false}
-use mathlib.Core.List.{List, [], _∷_}
+use mathlib.Core.List.{List, [], _∷_, _++_}
+use mathlib.Core.Option.{Option, none, some}
 use Prim.Native.Nat.{ℕ}
 use Rattle.demand.specs.Names.{Tick, Phase, TariffPart, NoTariff, KeepTariff, BurstPart, NoBurst, KeepBurst}
-use Rattle.demand.specs.Names.{Hook, KeepHook, Stop, Cause, cause, descriptorCauses, periodCauses}
+use Rattle.demand.specs.Names.{Hook, KeepHook, Stop, Cause, cause, descriptorCauses, periodCauses, ticketCauses}
 use Rattle.demand.specs.Names.{Reading, unreadable, senseless, descriptor, phasesOf, Grammar, Content}
 
--- a descriptor is what it reads as; a tick on a lent record is a tick too
+-- a descriptor is what it reads as, and with a ticket it is a commit; a tick on a lent record is a tick too
 pub data Call : Type 0 where
-  describe : (d : Reading) → Call
+  describe : (ticket : Option ℕ) (d : Reading) → Call
+  ask : (d : Reading) → Call
   hook : (event : Hook) → Call
   period : (rp : ℕ) → Call
   noPeriod : Call
   audit : Call
   tick : Call
 
--- the burst pulses cancelled; a refusal's number; both counters; what a tick tells
+-- the burst pulses cancelled; a refusal's number; what a commit would be answered, and the ticket for it; both
+-- counters; what a tick tells
 pub data Answer : Type 0 where
   accepted : (cancelled : ℕ) → Answer
   refused : (number : ℕ) → Answer
+  asked : (would : Answer) (ticket : ℕ) → Answer
   counters : (cpc pcslr : ℕ) → Answer
   ticked : (t : Tick) → Answer
 
@@ -45,9 +49,10 @@ nothing = asking KeepTariff [] KeepBurst (λ rp. rp) false
 
 -- what a call asks; a report period of 0 is none
 abbrev pub asks : Call → Asked
-asks (describe unreadable) = nothing
-asks (describe senseless) = nothing
-asks (describe (descriptor t ls b)) = asking t (phasesOf ls) b (λ rp. rp) false
+asks (describe ticket unreadable) = nothing
+asks (describe ticket senseless) = nothing
+asks (describe ticket (descriptor t ls b)) = asking t (phasesOf ls) b (λ rp. rp) false
+asks (ask d) = nothing
 asks (hook KeepHook) = nothing
 asks (hook Stop) = asking NoTariff [] NoBurst (λ rp. rp) false
 asks (period n) = asking KeepTariff [] KeepBurst (λ rp. n) false
@@ -55,13 +60,21 @@ asks noPeriod = asking KeepTariff [] KeepBurst (λ rp. 0) false
 asks audit = nothing
 asks tick = asking KeepTariff [] KeepBurst (λ rp. rp) true
 
--- what it may be refused for, on a line of spacing S: whether an em with C = 0 runs, and whether a burst runs
-abbrev pub causes : ℕ → Bool → Bool → Call → List Cause
-causes S endlessRuns burstRuns (describe unreadable) = cause Grammar true ∷ []
-causes S endlessRuns burstRuns (describe senseless) = cause Content true ∷ []
-causes S endlessRuns burstRuns (describe (descriptor t ls b)) = descriptorCauses S endlessRuns burstRuns t ls b
-causes S endlessRuns burstRuns (hook event) = []
-causes S endlessRuns burstRuns (period rp) = periodCauses rp
-causes S endlessRuns burstRuns noPeriod = []
-causes S endlessRuns burstRuns audit = []
-causes S endlessRuns burstRuns tick = []
+-- on a line of spacing S: whether an em with C = 0 runs, and whether a burst runs
+module _ (S : ℕ) (endlessRuns burstRuns : Bool) where
+  -- what a descriptor may be refused for
+  abbrev pub readingCauses : Reading → List Cause
+  readingCauses unreadable = cause Grammar true ∷ []
+  readingCauses senseless = cause Content true ∷ []
+  readingCauses (descriptor t ls b) = descriptorCauses S endlessRuns burstRuns t ls b
+
+  -- what a call may be refused for, by the line's serial; a commit's own causes stand before those of its descriptor
+  abbrev pub causes : ℕ → Call → List Cause
+  causes serial (describe none d) = readingCauses d
+  causes serial (describe (some ticket) d) = ticketCauses ticket serial ++ readingCauses d
+  causes serial (ask d) = []
+  causes serial (hook event) = []
+  causes serial (period rp) = periodCauses rp
+  causes serial noPeriod = []
+  causes serial audit = []
+  causes serial tick = []

@@ -1,23 +1,24 @@
 -- What a history says of the line: read from its calls and answers alone. A history is held newest first.
 use mathlib.Core.Bool.{Bool, true, false, cond, not, _&&_, _||_}
 use mathlib.Core.List.{List, [], _∷_}
-use Prim.Native.Nat.{ℕ, _+_, _-_, max}
+use Prim.Native.Nat.{ℕ, _+_, _-_, min, max}
 use lib.Dec.{leb, ltb, eqb}
 use Rattle.slots.specs.Slots.{Running, nothing, phased, emAt, rated, completesAt}
 use Rattle.demand.specs.Names.{Front, Tick, Phase, TariffPart, NoTariff, KeepTariff, Rate, Em, Phased, oneMore}
 use Rattle.demand.specs.Names.{BurstPart, NoBurst, KeepBurst, Start, silent, ifFront, ifBurst, isBurstFront}
-use Rattle.demand.specs.Calls.{audit, Answer, accepted, refused, counters, ticked, Entry, Asked, asks}
+use Rattle.demand.specs.Calls.{audit, Answer, accepted, refused, asked, counters, ticked, Entry}
+use Rattle.demand.specs.Calls.{Asked, asks}
 
 -- what the call of an entry asked; a refused call gets no more than an audit
 abbrev pub unlessRefused : Answer → Asked → Asked
-unlessRefused a x = elim a [ accepted k ↦ x | refused n ↦ asks audit | counters m n ↦ x | ticked t ↦ x ]
+unlessRefused a x = elim a [ accepted k ↦ x | refused n ↦ asks audit | asked w n ↦ x | counters m n ↦ x | ticked t ↦ x ]
 
 abbrev pub granted : Entry → Asked
 granted e = unlessRefused (e .answer) (asks (e .call))
 
 -- what an answer tells of a tick: nothing, if it is another call's
 abbrev pub told : Answer → Tick
-told a = elim a [ accepted k ↦ silent | refused n ↦ silent | counters m n ↦ silent | ticked t ↦ t ]
+told a = elim a [ accepted k ↦ silent | refused n ↦ silent | asked w n ↦ silent | counters m n ↦ silent | ticked t ↦ t ]
 
 -- a front is a tick's answer that a tariff pulse or a burst pulse begins
 abbrev pub frontOf : Entry → Front
@@ -35,9 +36,21 @@ acceptedPulses h = sum (λ e. elim (granted e .burst) [ NoBurst ↦ 0 | KeepBurs
 abbrev pub begun : List Entry → ℕ
 begun h = sum (λ e. isBurstFront (frontOf e)) h
 
+-- f of the cancelled count that an answer tells, 0 if it is no acceptance
+abbrev pub ifAccepted : Answer → (ℕ → ℕ) → ℕ
+ifAccepted a f = elim a [ accepted k ↦ f k | refused n ↦ 0 | asked w n ↦ 0 | counters m n ↦ 0 | ticked t ↦ 0 ]
+
 -- reported cancelled: the sum of the cancelled counts answered
 abbrev pub cancelled : List Entry → ℕ
-cancelled h = sum (λ e. elim (e .answer) [ accepted k ↦ k | refused n ↦ 0 | counters m n ↦ 0 | ticked t ↦ 0 ]) h
+cancelled h = sum (λ e. ifAccepted (e .answer) (λ k. k)) h
+
+-- the calls accepted: descriptors, hook events, settings and clearings of the period
+abbrev pub changes : List Entry → ℕ
+changes h = sum (λ e. ifAccepted (e .answer) (λ k. 1)) h
+
+-- the serial: their number, held
+abbrev pub serialIn : List Entry → ℕ
+serialIn h = min 4294967295 (changes h)
 
 -- ticks are numbered from 1: the next one is ticks h + 1
 unfoldable pub ticks : List Entry → ℕ

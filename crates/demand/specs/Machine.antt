@@ -1,28 +1,35 @@
 -- The history of a list of calls, each made on the line that the one before handed back or left.
 use mathlib.Core.List.{List, [], _∷_}
+use mathlib.Core.Option.{none, some}
 use Prim.Native.Nat.{ℕ}
 use Rattle.tariff.specs.Tariffs.{isEndless}
 use Rattle.descriptor.specs.Refusals.{refusalNumber, ruling}
 use Rattle.burst.specs.Bursts.{isRunning}
-use Rattle.line.specs.Lines.{makeOf, readAnswer, hookOf, periodOf, noPeriodOf, auditOf, tickOf, onOf}
+use Rattle.line.specs.Lines.{makeOf, readAnswer, commitOf, askOf, hookOf, periodOf, noPeriodOf, auditOf}
+use Rattle.line.specs.Lines.{tickOf, onOf}
 use Rattle.line.specs.declared.Line.{Line}
 use Rattle.line.specs.declared.Verdict.{Verdict}
 use Rattle.line.specs.declared.Verdict.the-variants.{Accepted, Refused}
 use Rattle.line.specs.declared.Answered.{Answered}
+use Rattle.line.specs.declared.Asked.{Asked}
 use Rattle.line.specs.declared.Audited.{Audited}
 use Rattle.line.specs.declared.Ticked.{Ticked}
 use Rattle.phase_lists.specs.Lists.{Lists}
-use Rattle.grammar.specs.Meaning.{descriptor, readingOf}
+use Rattle.grammar.specs.Meaning.{Reading, descriptor, readingOf}
 use Rattle.demand.specs.Names.{Ruling, TariffPart, BurstPart}
-use Rattle.demand.specs.Calls.{Call, describe, hook, period, noPeriod, audit, tick}
-use Rattle.demand.specs.Calls.{Answer, accepted, refused, counters, ticked, Entry, causes}
+use Rattle.demand.specs.Calls.{Call, describe, ask, hook, period, noPeriod, audit, tick}
+use Rattle.demand.specs.Calls.{Answer, accepted, refused, asked, counters, ticked, Entry, causes}
 
 -- a descriptor by its parts, and one as a text
 abbrev pub parts : TariffPart → Lists → BurstPart → Call
-parts t ls b = describe (descriptor t ls b)
+parts t ls b = describe none (descriptor t ls b)
 
 abbrev pub text : List ℕ → Call
-text bytes = describe (readingOf bytes)
+text bytes = describe none (readingOf bytes)
+
+-- a commit
+abbrev pub commit : ℕ → Reading → Call
+commit ticket d = describe (some ticket) d
 
 -- the number and the value of each case of a verdict
 abbrev pub verdictTold : Verdict → Answer
@@ -36,6 +43,9 @@ pub data Outcome : Type 0 where
 abbrev pub answered : Answered → Outcome
 answered r = outcome (verdictTold (r .verdict)) (r .line)
 
+abbrev pub ticketed : Asked → Outcome
+ticketed r = outcome (asked (verdictTold (r .verdict)) (r .ticket)) (r .line)
+
 abbrev pub audited : Audited → Outcome
 audited r = outcome (counters (r .cpc) (r .pcslr)) (r .line)
 
@@ -43,7 +53,9 @@ abbrev pub moved : Ticked → Outcome
 moved r = outcome (ticked (r .tick)) (r .line)
 
 unfoldable pub step : Line → Call → Outcome
-step l (describe d) = answered (readAnswer l d)
+step l (describe none d) = answered (readAnswer l d)
+step l (describe (some ticket) d) = answered (commitOf l ticket (readAnswer l d))
+step l (ask d) = ticketed (askOf l (readAnswer l d))
 step l (hook event) = answered (hookOf l event)
 step l (period rp) = answered (periodOf l rp)
 step l noPeriod = answered (noPeriodOf l)
@@ -52,7 +64,7 @@ step l tick = moved (tickOf l)
 
 -- what the table of refusals makes of a call on this line
 abbrev pub rulingOf : Line → Call → Ruling
-rulingOf l c = ruling (causes (l .spacing) (isEndless (l .state .tariff)) (isRunning (l .state .burst)) c)
+rulingOf l c = ruling (causes (l .spacing) (isEndless (l .state .tariff)) (isRunning (l .state .burst)) (l .serial) c)
 
 -- the entry of a call that was answered a and left the line l
 abbrev pub entryFor : Call → Answer → Line → Entry

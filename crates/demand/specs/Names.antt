@@ -17,6 +17,7 @@ pub use Rattle.descriptor.specs.declared.Ruling.{Ruling}
 pub use Rattle.descriptor.specs.declared.Ruling.the-variants.{Allowed, TurnedDown}
 pub use Rattle.descriptor.specs.declared.Refusal.the-variants.{Grammar, Content}
 pub use Rattle.descriptor.specs.Refusals.{refusalNumber, Cause, cause, ruling, descriptorCauses, periodCauses}
+pub use Rattle.descriptor.specs.Refusals.{ticketCauses}
 pub use Rattle.descriptor.specs.Cancelled.{cancelledBy}
 pub use Rattle.phase_lists.specs.Lists.{Lists, phasesOf}
 pub use Rattle.grammar.specs.Meaning.{Reading, unreadable, senseless, descriptor}

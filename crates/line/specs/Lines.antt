@@ -164,13 +164,13 @@ hookOf l Stop = accepting (withState l (withBurst (stopped (l .state)) noBurst))
 
 -- ---- asking and committing
 
--- a commit is turned down for its ticket or for the serial, or gets what its descriptor would get without one
-abbrev pub ticketed : Ruling → Line → Answered → Answered
-ticketed Allowed l given = given
-ticketed (TurnedDown r) l given = refusing l r
+abbrev pub ifAllowed : Ruling → Line → Answered → Answered
+ifAllowed Allowed l given = given
+ifAllowed (TurnedDown r) l given = refusing l r
 
+-- a commit is turned down for its ticket or for the serial, or gets what its descriptor is given without a ticket
 unfoldable pub commitOf : Line → ℕ → Answered → Answered
-commitOf l ticket given = ticketed (ruling (ticketCauses ticket (l .serial))) l given
+commitOf l ticket given = ifAllowed (ruling (ticketCauses ticket (l .serial))) l given
 
 -- asking tells what a commit with the serial would be answered; the ticket is the serial, and the line is as it was
 unfoldable pub askOf : Line → Answered → Asked
