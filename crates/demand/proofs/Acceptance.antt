@@ -72,7 +72,7 @@ module _ (D S : ℕ) (h : List Entry) where
   causesAfter c = causes S (runsEndless (running D S h)) (burstRuns D (burstIn h) (ticks h)) (serialIn h) c
 
   command-judged : (c : Call) → Ordered c → Judged (causesAfter c) (ruledAnswer (rulingAfter D S h c) (cancelledBy (asks c .burst) (owed h)))
-  command-judged c o = ruled-judged (causesAfter c) _ (causes-ascend S _ _ (serialIn h) c o) (rulingAfter D S h c) refl
+  command-judged c o = ruled-judged (causesAfter c) _ (causes-ascend S (runsEndless (running D S h)) (burstRuns D (burstIn h) (ticks h)) (serialIn h) c o) (rulingAfter D S h c) refl
 
   pub judged : (c : Call) → Ordered c → Judged (causesAfter c) (answerAfter D S h c)
   unfolding answerAfter ruling

@@ -112,8 +112,8 @@ module _ (h : List Entry) (l : Line) (x : QuietPast (past h l)) where
   described : (k : Option ℕ) (d : Reading) (u : Ruling) → rulingOf l (describe k d) ≡ u → QuietPast (noted h (describe k d) (answered (describedBy u d l)))
   unfolding ticks sum
   described k d (TurnedDown r) e = λ early. (x early .0, omega (arith, x early .1))
-  described k unreadable Allowed e = absurd (unreadable-refused (l .spacing) _ _ (allowed-reading (l .spacing) _ _ (l .serial) k unreadable e))
-  described k senseless Allowed e = absurd (senseless-refused (l .spacing) _ _ (allowed-reading (l .spacing) _ _ (l .serial) k senseless e))
+  described k unreadable Allowed e = absurd (unreadable-refused (l .spacing) (isEndless (l .state .tariff)) (isRunning (l .state .burst)) (l .serial) k e)
+  described k senseless Allowed e = absurd (senseless-refused (l .spacing) (isEndless (l .state .tariff)) (isRunning (l .state .burst)) (l .serial) k e)
   described k (descriptor t ls p) Allowed e = λ early.
       let endless : Bool = isEndless (l .state .tariff) in
       let running : Bool = isRunning (l .state .burst) in

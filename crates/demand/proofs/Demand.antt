@@ -50,7 +50,7 @@ slot-front D S h c a (to-audit n) e = absurd (let o : _≡_ {A = ℕ} 0 1 = cc i
 slot-front D S h c a (to-tick n) e = tariff-front _ _
 
 -- ---- an accepted configuration
-config : (D G : ℕ) → soundConfiguration D G ≡ true → Config D (D + G)
+pub config : (D G : ℕ) → soundConfiguration D G ≡ true → Config D (D + G)
 config D G h =
     let both = and-eq-true-iff (within 1 500 D) (within 1 500 G) .0 h in
     let d = and-eq-true-iff (leb 1 D) (leb D 500) .0 (both .0) in
@@ -88,7 +88,7 @@ module _ (D G clock : ℕ) (sound : soundConfiguration D G ≡ true) (small : cl
   unfolding history
   run = rw (made D G clock sound) (_, run-history D S clock cfg cs)
 
-  run-part : (a h : List Entry) → history D G clock cs ≡ a ++ h → (l : Line) × Run D S clock cfg h l
+  pub run-part : (a h : List Entry) → history D G clock cs ≡ a ++ h → (l : Line) × Run D S clock cfg h l
   run-part a h e = cut D S clock cfg a h (rw e at (run .1))
 
   end-answers : (c : Call) → EndAnswers D G clock cs c (answerAfter D S (history D G clock cs) c)

@@ -59,10 +59,12 @@ allowed-reading S e b serial none d h = h
 allowed-reading S e b serial (some ticket) d h = none-after (ticketCauses ticket serial) (readingCauses S e b d) h .1
 
 -- and reads, and makes sense
-pub unreadable-refused : (S : ℕ) (e b : Bool) → ruling (readingCauses S e b unreadable) ≡ Allowed → ⊥
+pub unreadable-refused : (S : ℕ) (e b : Bool) (serial : ℕ) (k : Option ℕ) → ruling (causes S e b serial (describe k unreadable)) ≡ Allowed → ⊥
 unfolding ruling
-unreadable-refused S e b h = let o : _≡_ {A = ℕ} 0 1 = cc in omega arith
+unreadable-refused S e b serial k h =
+    let no = allowed-reading S e b serial k unreadable h in let o : _≡_ {A = ℕ} 0 1 = cc in omega arith
 
-pub senseless-refused : (S : ℕ) (e b : Bool) → ruling (readingCauses S e b senseless) ≡ Allowed → ⊥
+pub senseless-refused : (S : ℕ) (e b : Bool) (serial : ℕ) (k : Option ℕ) → ruling (causes S e b serial (describe k senseless)) ≡ Allowed → ⊥
 unfolding ruling
-senseless-refused S e b h = let o : _≡_ {A = ℕ} 0 1 = cc in omega arith
+senseless-refused S e b serial k h =
+    let no = allowed-reading S e b serial k senseless h in let o : _≡_ {A = ℕ} 0 1 = cc in omega arith

@@ -159,8 +159,8 @@ module _ (l : Line) (cfg : Config (l .pulse) (l .spacing)) (good : Good (l .spac
   changed : (k′ : Option ℕ) (d : Reading) (u : Ruling) → rulingOf l (describe k′ d) ≡ u → EffectOf (describe k′ d) (answered (describedBy u d l))
   unfolding tariffChanged burstChanged
   changed k′ d (TurnedDown r) e = stays refl refl refl refl owing
-  changed k′ unreadable Allowed e = absurd (unreadable-refused S _ _ (allowed-reading S _ _ (l .serial) k′ unreadable e))
-  changed k′ senseless Allowed e = absurd (senseless-refused S _ _ (allowed-reading S _ _ (l .serial) k′ senseless e))
+  changed k′ unreadable Allowed e = absurd (unreadable-refused S (isEndless (l .state .tariff)) (isRunning (l .state .burst)) (l .serial) k′ e)
+  changed k′ senseless Allowed e = absurd (senseless-refused S (isEndless (l .state .tariff)) (isRunning (l .state .burst)) (l .serial) k′ e)
   changed k′ (descriptor t ls NoBurst) Allowed e = cancels refl
   changed k′ (descriptor t ls (Start n P)) Allowed e =
       let endless : Bool = isEndless (l .state .tariff) in

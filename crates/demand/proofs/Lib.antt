@@ -18,6 +18,8 @@ pub mod Bound
 pub mod Sum
 pub mod Spacing
 pub mod Demand
+pub mod Favour
+pub mod Tickets
 pub mod Reports
 pub mod Bounds
 pub mod Refused

@@ -43,7 +43,7 @@ use Rattle.demand.proofs.AnswerKinds.{ruled}
 module _ (D S clock : ℕ) (cfg : Config D S) where
   -- what is read off a coupled line
   module _ (h : List Entry) where
-    rulings-agree : {l : Line} → Coupled D S clock h l → l .serial ≡ serialIn h → (c : Call) → rulingOf l c ≡ rulingAfter D S h c
+    pub rulings-agree : {l : Line} → Coupled D S clock h l → l .serial ≡ serialIn h → (c : Call) → rulingOf l c ≡ rulingAfter D S h c
     rulings-agree (line-at {w = w} {t = t} {ps = ps} {n = n} {u = u} e before a g x y) s c =
         rw (rate-runs D ps n (running D S h) t w (ticks h) a, ← runs-is D S cfg (ticks h) (burstIn h) u x, s)
 
@@ -67,8 +67,8 @@ module _ (D S clock : ℕ) (cfg : Config D S) where
   module _ (h : List Entry) {l : Line} (x : Coupled D S clock h l) (s : l .serial ≡ serialIn h) where
     describe-right : (k : Option ℕ) (d : Reading) (u : Ruling) → rulingAfter D S h (describe k d) ≡ u → Right h (describe k d) (answered (describedBy u d l))
     unfolding answerAfter ticks lastFront burstIn running frontsSinceEm sinceReport periodIn
-    describe-right k unreadable Allowed e = absurd (unreadable-refused S _ _ (allowed-reading S _ _ (serialIn h) k unreadable e))
-    describe-right k senseless Allowed e = absurd (senseless-refused S _ _ (allowed-reading S _ _ (serialIn h) k senseless e))
+    describe-right k unreadable Allowed e = absurd (unreadable-refused S (runsEndless (running D S h)) (burstRuns D (burstIn h) (ticks h)) (serialIn h) k e)
+    describe-right k senseless Allowed e = absurd (senseless-refused S (runsEndless (running D S h)) (burstRuns D (burstIn h) (ticks h)) (serialIn h) k e)
     describe-right k (descriptor t ls b) Allowed e =
         let endless : Bool = runsEndless (running D S h) in
         let runs : Bool = burstRuns D (burstIn h) (ticks h) in

@@ -5,4 +5,5 @@ pub mod History
 pub mod Answers
 pub mod Machine
 pub mod Demand
+pub mod Tickets
 pub mod Examples
