@@ -70,7 +70,8 @@ card-input = refl
 
 -- a text stands from SG on, whatever follows
 pub card-text :
-    map cardOf ("at 7 SG 1" ∷ "  at   7   SGx \t " ∷ "at 7 SG" ∷ []) ≡ Text 7 Take 5 ∷ Text 7 Take 11 ∷ Text 7 Take 5 ∷ []
+    map cardOf ("at 7 SG 1" ∷ "  at   7   SGx \t " ∷ "at 7 SG" ∷ [])
+    ≡ Text 7 Take 5 ∷ Text 7 Take 11 ∷ Text 7 Take 5 ∷ []
 unfolding wordsOf
 card-text = refl
 
