@@ -1,10 +1,11 @@
--- The events that the paper's example prints. And a notice and counters of a card.
+-- The events that the paper's example prints. And a notice, counters and the answers to asks of a card.
 use mathlib.Core.Path.{_≡_, refl}
 use mathlib.Core.Bool.{true, false}
 use mathlib.Core.List.{_++_}
 use Rattle.answers.specs.declared.Front.the-variants.{None as NoFront, Tariff as TariffFront, Burst as BurstFront}
 use Rattle.printing.specs.Bytes.{bytes}
-use Rattle.printing.specs.Text.{digitsOf, tickText, noticeText, countersText}
+use Rattle.printing.specs.Text.{digitsOf, tickText, noticeText, countersText, askedText}
+use Rattle.printing.specs.declared.Answer.the-variants.{Ok, No}
 
 -- the events of the paper's example from tick 201 on
 pub output :
@@ -29,3 +30,8 @@ notice-first = refl
 pub counters : countersText 4_294_967_295 7 ≡ bytes "a 4294967295 7\n"
 unfolding digitsOf
 counters = refl
+
+-- an ask that would cancel three pulses, and one that would be refused; the ticket is 17
+pub asked : askedText (Ok 3) 17 ++ askedText (No 8) 17 ≡ bytes "ok 3 17\nno 8 17\n"
+unfolding digitsOf
+asked = refl

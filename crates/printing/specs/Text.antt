@@ -88,6 +88,16 @@ noticeText tick place tariff burst reports =
     ++ bytes " " ++ digitsOf (bit tariff) ++ bytes " " ++ digitsOf (bit burst)
     ++ bytes " " ++ digitsOf reports ++ bytes "\n"
 
+-- a line of two numbers after a head
+abbrev pub pairText : List ℕ → ℕ → ℕ → List ℕ
+pairText head a b = head ++ digitsOf a ++ bytes " " ++ digitsOf b ++ bytes "\n"
+
 -- the line of the counters: `a`, cpc and pcslr
 abbrev pub countersText : ℕ → ℕ → List ℕ
-countersText cpc pcslr = bytes "a " ++ digitsOf cpc ++ bytes " " ++ digitsOf pcslr ++ bytes "\n"
+countersText cpc pcslr = pairText (bytes "a ") cpc pcslr
+
+-- the line that answers an ask: `ok` and the count or `no` and the number, then the ticket, or `bad`
+abbrev pub askedText : Answer → ℕ → List ℕ
+askedText (Ok n) ticket = pairText (bytes "ok ") n ticket
+askedText (No n) ticket = pairText (bytes "no ") n ticket
+askedText Bad ticket = bytes "bad\n"

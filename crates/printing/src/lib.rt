@@ -1,9 +1,11 @@
 // The lines that the programs `meter` and `card` print.
+mod asks;
 mod buffer;
 mod decimal;
 mod notices;
 mod text;
 
+pub use asks::put_asked;
 pub use notices::put_counters;
 pub use notices::put_notice;
 pub use text::put_answer;

@@ -2,7 +2,8 @@
 ghost use mathlib.Core.Path.{_≡_};
 ghost use Prim.Native.Nat.{_+_, _≤_};
 ghost use lib.ListN.{length};
-ghost use Rattle.printing.specs.Text.{bit as Text·bit, noticeText, countersText};
+ghost use Rattle.printing.specs.Bytes.{unpacked};
+ghost use Rattle.printing.specs.Text.{bit as Text·bit, noticeText, pairText, countersText};
 ghost use Rattle.printing.specs.Buffer.{Put, longest, written};
 use super::Written;
 use super::buffer::put_around;
@@ -63,13 +64,13 @@ pub fn put_notice(
     Written::Next(put_numbers(buf, at, tick, place, tariff, burst, reports))
 }
 
-// Puts the line of two counters.
-fn put_two(buf: &mut [u8], at: usize, cpc: u32, pcslr: u32) -> usize
-    requires { ⌜ at + longest ≤ length (now buf) ⌝ }
-    ensures { λ r. ⌜ Put (now (buf .entry)) at (countersText cpc pcslr) (now (buf .exit)) r ⌝ }
+// Puts a line of two numbers after a packed text.
+pub(crate) fn put_two(buf: &mut [u8], at: usize, head: u64, a: u32, b: u32) -> usize
+    requires { ⌜ at + length (unpacked head) + 22 ≤ length (now buf) ⌝ }
+    ensures { λ r. ⌜ Put (now (buf .entry)) at (pairText (unpacked head) a b) (now (buf .exit)) r ⌝ }
 {
-    let at = put_around(buf, at, COUNTERS, cpc, BLANK);
-    put_around(buf, at, NOTHING, pcslr, NEWLINE)
+    let at = put_around(buf, at, head, a, BLANK);
+    put_around(buf, at, NOTHING, b, NEWLINE)
 }
 
 // Puts the line of the counters from `at` on.
@@ -79,5 +80,5 @@ pub fn put_counters(buf: &mut [u8], at: usize, cpc: u32, pcslr: u32) -> Written
     if is_full(buf.len(), at) {
         return Written::Full;
     }
-    Written::Next(put_two(buf, at, cpc, pcslr))
+    Written::Next(put_two(buf, at, COUNTERS, cpc, pcslr))
 }

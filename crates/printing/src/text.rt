@@ -15,11 +15,11 @@ use answers::Front;
 use answers::Tick;
 
 // The fixed texts, packed: the lowest byte of a number is its text's first.
-const OK: u64 = 0x206b6f; // "ok "
+pub(crate) const OK: u64 = 0x206b6f; // "ok "
 
-const NO: u64 = 0x206f6e; // "no "
+pub(crate) const NO: u64 = 0x206f6e; // "no "
 
-const BAD: u64 = 0x0a646162; // "bad\n"
+pub(crate) const BAD: u64 = 0x0a646162; // "bad\n"
 
 const COMPLETE: u64 = 0x2063; // "c "
 

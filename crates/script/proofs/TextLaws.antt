@@ -1,20 +1,22 @@
--- The text of a card's line lies within the line, and it is what stands from its third word on.
+-- The text of a card's line lies within the line, and it is what stands from one of its words on.
 use mathlib.Core.Bool.{Bool, true, false, cond}
 use mathlib.Core.Path.{_≡_, refl, sym, ap, _∙_}
 use mathlib.Core.List.{List, [], _∷_}
-use Prim.Native.Nat.{ℕ, suc, _+_, _-_, _≤_}
+use Prim.Native.Nat.{ℕ, zero, suc, _+_, _-_, _≤_}
 use native.Mathlib.Omega.{arith}
 use lib.ListN.{length, drop}
 use lib.Seq.{drop-drop}
 use Rattle.script.specs.Words.{same, wordsOf}
 use Rattle.script.specs.Numbers.{numberOf}
 use Rattle.script.specs.Runs.{endsRun, pastRun, pastBlanks}
-use Rattle.script.specs.Readers.{Parsed, failed, parsed, Reader, after, give, fail, first, rest, valued, noWord, whole}
+use Rattle.script.specs.Readers.{Parsed, failed, parsed, Reader, after, give, fail, orElse, first, rest, valued, noWord, whole}
 use Rattle.script.specs.Commands.{configure, period, describe, hook, run}
-use Rattle.script.specs.Cards.{ofRow, ofPlace, asked, all, isText, placed, atPlace, grouped, group, cardCommand, beginning, pastFirst, cardCommandOf}
+use Rattle.script.specs.Cards.{ofRow, ofPlace, mapped, all, isText, given, commit, placed, atPlace, grouped, group, cardCommand, pastFirst, pastWords, startOf, cardCommandOf}
 use Rattle.script.specs.declared.Command.{Command}
 use Rattle.script.specs.declared.Command.the-variants.{Bad, Configure, Period, NoPeriod, Describe, OnHook, Run}
 use Rattle.script.specs.declared.Places.{Places}
+use Rattle.script.specs.declared.Giving.{Giving}
+use Rattle.script.specs.declared.Giving.the-variants.{Take, Ask, Commit}
 use Rattle.script.specs.declared.CardCommand.{CardCommand}
 use Rattle.script.specs.declared.CardCommand.the-variants.{Bad as BadCard, Configure as Add}
 use Rattle.script.specs.declared.CardCommand.the-variants.{On, Audit, Text, Tick, Group}
@@ -26,9 +28,9 @@ use Rattle.printing.specs.Bytes.{bytes}
 abbrev fromOf : CardCommand → ℕ
 fromOf BadCard = 0
 fromOf (Add d g clock) = 0
-fromOf (On place c) = 0
+fromOf (On place giving c) = 0
 fromOf (Audit place) = 0
-fromOf (Text place from) = from
+fromOf (Text place giving from) = from
 fromOf (Tick t) = 0
 fromOf (Group p) = 0
 
@@ -54,18 +56,18 @@ row-begun (Describe t k u) = refl
 row-begun (OnHook h) = refl
 row-begun (Run t) = refl
 
-place-begun : (place : ℕ) (c : Command) → fromOf (ofPlace place c) ≡ 0
-place-begun place Bad = refl
-place-begun place (Configure d g clock) = refl
-place-begun place (Period n) = refl
-place-begun place NoPeriod = refl
-place-begun place (Describe t k u) = refl
-place-begun place (OnHook h) = refl
-place-begun place (Run t) = refl
+place-begun : (place : ℕ) (giving : Giving) (c : Command) → fromOf (ofPlace place giving c) ≡ 0
+place-begun place giving Bad = refl
+place-begun place giving (Configure d g clock) = refl
+place-begun place giving (Period n) = refl
+place-begun place giving NoPeriod = refl
+place-begun place giving (Describe t k u) = refl
+place-begun place giving (OnHook h) = refl
+place-begun place giving (Run t) = refl
 
 -- what `meter` reads has no text
-asked-begun : (f : Command → CardCommand) → ((c : Command) → fromOf (f c) ≡ 0) → (r : Reader Command) (ws : List (List ℕ)) (n : ℕ) → begun (asked f r ws) ≤ n
-asked-begun f e r ws n = at (r ws)
+mapped-begun : (f : Command → CardCommand) → ((c : Command) → fromOf (f c) ≡ 0) → (r : Reader Command) (ws : List (List ℕ)) (n : ℕ) → begun (mapped f r ws) ≤ n
+mapped-begun f e r ws n = at (r ws)
   where
     at : (p : Parsed Command) → begun (after p (λ c. give (f c))) ≤ n
     at failed = omega arith
@@ -75,25 +77,54 @@ either : (t : Bool) (r s : Reader CardCommand) (ws : List (List ℕ)) (n : ℕ) 
 either true r s ws n a b = a
 either false r s ws n a b = b
 
-placed-begun : (from place : ℕ) (ws : List (List ℕ)) → begun (placed from place ws) ≤ from
-placed-begun from place ws =
+or-begun : (p q : Parsed CardCommand) (n : ℕ) → begun p ≤ n → begun q ≤ n → begun (orElse p q) ≤ n
+or-begun failed q n a b = b
+or-begun (parsed c ws) q n a b = a
+
+given-begun : (giving : Giving) (from place : ℕ) (ws : List (List ℕ)) → begun (given giving from place ws) ≤ from
+given-begun giving from place ws =
     let w = first ws in
     let vs = rest ws in
     let no : begun (fail vs) ≤ from = omega arith in
-    let f = ofPlace place in
-    let z = place-begun place in
-    either (isText w) (all (Text place from)) _ vs from (omega arith)
-    (either (same w (bytes "audit")) (give (Audit place)) _ vs from (omega arith)
-    (either (same w (bytes "rp")) (asked f period) _ vs from (asked-begun f z period vs from)
-    (either (same w (bytes "sig")) (asked f describe) _ vs from (asked-begun f z describe vs from)
-    (either (same w (bytes "hook")) (asked f hook) fail vs from (asked-begun f z hook vs from) no))))
+    let f = ofPlace place giving in
+    either (isText w) (all (Text place giving from)) _ vs from (omega arith)
+    (either (same w (bytes "sig")) (mapped f describe) fail vs from (mapped-begun f (place-begun place giving) describe vs from) no)
 
-at-begun : (from : ℕ) (ws : List (List ℕ)) → begun (atPlace from ws) ≤ from
-at-begun from ws = one (numberOf (first ws))
+commit-begun : (from place : ℕ) (ws : List (List ℕ)) → begun (commit from place ws) ≤ from
+commit-begun from place ws = one (numberOf (first ws))
   where
-    one : (m : Number) → begun (after (valued m (rest ws)) (λ place. placed from place)) ≤ from
-    one (Value place) = placed-begun from place (rest ws)
+    one : (m : Number) → begun (after (valued m (rest ws)) (λ n. given (Commit n) from place)) ≤ from
+    one (Value n) = given-begun (Commit n) from place (rest ws)
     one None = omega arith
+
+-- no text begins past n where no word does
+module _ (start : ℕ → ℕ) (n : ℕ) (within : (k : ℕ) → start k ≤ n) where
+  placed-begun : (place : ℕ) (ws : List (List ℕ)) → begun (placed start place ws) ≤ n
+  placed-begun place ws =
+      let w = first ws in
+      let vs = rest ws in
+      let no : begun (fail vs) ≤ n = omega arith in
+      let f = ofPlace place Take in
+      let z = place-begun place Take in
+      let h0 = within 0 in
+      let h1 = within 1 in
+      let h2 = within 2 in
+      let take = given-begun Take (start 0) place ws in
+      let ask = given-begun Ask (start 1) place vs in
+      let committed = commit-begun (start 2) place vs in
+      or-begun (given Take (start 0) place ws) _ n (omega arith)
+      (either (same w (bytes "audit")) (give (Audit place)) _ vs n (omega arith)
+      (either (same w (bytes "rp")) (mapped f period) _ vs n (mapped-begun f z period vs n)
+      (either (same w (bytes "hook")) (mapped f hook) _ vs n (mapped-begun f z hook vs n)
+      (either (same w (bytes "ask")) (given Ask (start 1) place) _ vs n (omega arith)
+      (either (same w (bytes "commit")) (commit (start 2) place) fail vs n (omega arith) no)))))
+
+  at-begun : (ws : List (List ℕ)) → begun (atPlace start ws) ≤ n
+  at-begun ws = one (numberOf (first ws))
+    where
+      one : (m : Number) → begun (after (valued m (rest ws)) (λ place. placed start place)) ≤ n
+      one (Value place) = placed-begun place (rest ws)
+      one None = omega arith
 
 -- nor has a group
 group-begun : (ws : List (List ℕ)) (n : ℕ) → begun (group ws) ≤ n
@@ -103,22 +134,23 @@ group-begun ws n = one (grouped ws)
     one failed = omega arith
     one (parsed g vs) = omega arith
 
-line-begun : (from : ℕ) (ws : List (List ℕ)) → begun (cardCommand from ws) ≤ from
-line-begun from ws =
-    let w = first ws in
-    let vs = rest ws in
-    let no : begun (fail vs) ≤ from = omega arith in
-    either (same w (bytes "cfg")) (asked ofRow configure) _ vs from (asked-begun ofRow row-begun configure vs from)
-    (either (same w (bytes "tick")) (asked ofRow run) _ vs from (asked-begun ofRow row-begun run vs from)
-    (either (same w (bytes "at")) (atPlace from) _ vs from (at-begun from vs)
-    (either (same w (bytes "group")) group fail vs from (group-begun vs from) no)))
-
 -- a text begins within its line
-pub text-within : (l : List ℕ) (place from : ℕ) → cardCommandOf l ≡ Text place from → from ≤ length l
-text-within l place from e =
-    let n = beginning l (pastFirst (pastFirst l)) in
-    let h = whole-begun (cardCommand n (wordsOf l)) n (line-begun n (wordsOf l)) in
+pub text-within : (l : List ℕ) (place : ℕ) (giving : Giving) (from : ℕ) → cardCommandOf l ≡ Text place giving from → from ≤ length l
+text-within l place giving from e =
+    let n = length l in
+    let start = startOf l (pastWords 2 l) in
+    let w = first (wordsOf l) in
+    let vs = rest (wordsOf l) in
+    let no : begun (fail vs) ≤ n = omega arith in
+    let within : (k : ℕ) → start k ≤ n = λ k. omega arith in
+    let h : begun (cardCommand start (wordsOf l)) ≤ n =
+    either (same w (bytes "cfg")) (mapped ofRow configure) _ vs n (mapped-begun ofRow row-begun configure vs n)
+    (either (same w (bytes "tick")) (mapped ofRow run) _ vs n (mapped-begun ofRow row-begun run vs n)
+    (either (same w (bytes "at")) (atPlace start) _ vs n (at-begun start n within vs)
+    (either (same w (bytes "group")) group fail vs n (group-begun vs n) no)))
+    in
     let q = ap fromOf e in
+    let z = whole-begun (cardCommand start (wordsOf l)) n h in
     omega arith
 
 -- m is the end of l
@@ -157,8 +189,11 @@ end-first : (l m : List ℕ) → End l m → End l (pastFirst m)
 end-first l m e =
     end-then l (pastBlanks m) (pastFirst m) (end-then l m (pastBlanks m) e (end-run true m)) (end-run false (pastBlanks m))
 
--- from where a text begins, the third word and all that follows it stand
-pub text-stands : (l : List ℕ) → drop (beginning l (pastFirst (pastFirst l))) l ≡ pastBlanks (pastFirst (pastFirst l))
-text-stands l =
-    let m = pastFirst (pastFirst l) in
-    end-then l m (pastBlanks m) (end-first l (pastFirst l) (end-first l l (end-self l))) (end-run true m) .stands
+end-words : (k : ℕ) (l m : List ℕ) → End l m → End l (pastWords k m)
+end-words zero l m e = e
+end-words (suc k) l m e = end-words k l (pastFirst m) (end-first l m e)
+
+-- from where a word begins, it and all that follows it stand
+pub text-stands : (k : ℕ) (l : List ℕ) → drop (startOf l l k) l ≡ pastBlanks (pastWords k l)
+text-stands k l =
+    let m = pastWords k l in end-then l m (pastBlanks m) (end-words k l l (end-self l)) (end-run true m) .stands

@@ -12,6 +12,7 @@ use Rattle.script.specs.Readers.{whole}
 use Rattle.script.specs.Cards.{placesOf, group, cardCommandOf, placesIn}
 use Rattle.script.specs.declared.Command.{Command}
 use Rattle.script.specs.declared.Command.the-variants.{Bad, Configure, Period, NoPeriod, Describe, OnHook, Run}
+use Rattle.script.specs.declared.Giving.the-variants.{Take, Ask, Commit}
 use Rattle.script.specs.declared.CardCommand.{CardCommand}
 use Rattle.script.specs.declared.CardCommand.the-variants.{Bad as BadCard, Configure as Add}
 use Rattle.script.specs.declared.CardCommand.the-variants.{On, Audit, Text, Tick, Group}
@@ -57,10 +58,10 @@ pub card-input :
     ∷ "tick 1000000"
     ∷ [])
     ≡ Add 50 50 0
-    ∷ On 0 (Period 3)
-    ∷ On 64 NoPeriod
-    ∷ On 1 (Describe Phased 2 Keep)
-    ∷ On 2 (OnHook Stop)
+    ∷ On 0 Take (Period 3)
+    ∷ On 64 Take NoPeriod
+    ∷ On 1 Take (Describe Phased 2 Keep)
+    ∷ On 2 Take (OnHook Stop)
     ∷ Audit 7
     ∷ Tick 1_000_000
     ∷ []
@@ -68,13 +69,43 @@ unfolding wordsOf
 card-input = refl
 
 -- a text stands from SG on, whatever follows
-pub card-text : map cardOf ("at 7 SG 1" ∷ "  at   7   SGx \t " ∷ "at 7 SG" ∷ []) ≡ Text 7 5 ∷ Text 7 11 ∷ Text 7 5 ∷ []
+pub card-text :
+    map cardOf ("at 7 SG 1" ∷ "  at   7   SGx \t " ∷ "at 7 SG" ∷ [])
+    ≡ Text 7 Take 5 ∷ Text 7 Take 11 ∷ Text 7 Take 5 ∷ []
 unfolding wordsOf
 card-text = refl
 
 -- with the blanks at its end
 pub card-text-bytes : drop 11 (bytes "  at   7   SGx \t ") ≡ bytes "SGx \t "
 card-text-bytes = refl
+
+-- descriptors that are asked, and that are committed with a ticket
+pub card-asked :
+    map cardOf
+    ("at 7 ask sig ph 2 keep" ∷ "at 7 ask SG 1" ∷ "at 7 commit 12 sig em 0 400 keep" ∷ " at 7  commit 012  SG{} " ∷ [])
+    ≡ On 7 Ask (Describe Phased 2 Keep)
+    ∷ Text 7 Ask 9
+    ∷ On 7 (Commit 12) (Describe (Em 0 400) 0 Keep)
+    ∷ Text 7 (Commit 12) 19
+    ∷ []
+unfolding wordsOf
+card-asked = refl
+
+-- what is no descriptor, a ticket that is none, and a descriptor with a word too many
+pub card-not-asked :
+    map cardOf
+    ("at 7 ask rp 3"
+    ∷ "at 7 ask ask SG"
+    ∷ "at 7 ask"
+    ∷ "at 7 commit 12 audit"
+    ∷ "at 7 commit 12 commit 12 SG"
+    ∷ "at 7 commit SG"
+    ∷ "at 7 commit 4294967296 SG"
+    ∷ "at 7 ask sig none none 1"
+    ∷ [])
+    ≡ BadCard ∷ BadCard ∷ BadCard ∷ BadCard ∷ BadCard ∷ BadCard ∷ BadCard ∷ BadCard ∷ []
+unfolding wordsOf
+card-not-asked = refl
 
 -- what is not for one line of a row, and what is not for the row
 pub card-misplaced :

@@ -35,6 +35,16 @@ give a ws = parsed a ws
 abbrev pub fail : {A : Type 0} → Reader A
 fail ws = failed
 
+-- what was read, or what was read instead where nothing was
+abbrev pub orElse : {A : Type 0} → Parsed A → Parsed A → Parsed A
+orElse failed q = q
+orElse (parsed a ws) q = parsed a ws
+
+infixr 20 _<|>_
+-- one reader, or another where it fails
+abbrev pub _<|>_ : {A : Type 0} → Reader A → Reader A → Reader A
+_<|>_ r s = λ ws. orElse (r ws) (s ws)
+
 -- the first word, empty where there is none
 abbrev pub first : List (List ℕ) → List ℕ
 first [] = []

@@ -3,28 +3,20 @@ ghost use mathlib.Core.Path.{_≡_};
 ghost use lib.ListN.{drop};
 ghost use Rattle.script.specs.Words.{wordsOf};
 ghost use Rattle.script.specs.Readers.{whole};
-ghost use Rattle.script.specs.Cards.{ofRow, ofPlace, isText, placed, atPlace, beginning, pastFirst, cardCommandOf};
+ghost use Rattle.script.specs.Cards.{ofRow, atPlace, pastFirst, startOf, cardCommandOf};
 ghost use Rattle.script.specs.declared.CardCommand.the-variants.{Bad};
 use super::CardCommand;
 use super::Command;
 use super::commands::read_configure;
-use super::commands::read_describe;
-use super::commands::read_hook;
-use super::commands::read_period;
 use super::commands::read_run;
 use super::groups::read_group;
 use super::keywords::AT;
-use super::keywords::AUDIT;
 use super::keywords::CFG;
 use super::keywords::GROUP;
-use super::keywords::HOOK;
-use super::keywords::RP;
-use super::keywords::SG;
-use super::keywords::SIG;
 use super::keywords::TICK;
 use super::numbers::Number;
 use super::numbers::number_in;
-use super::words::ended;
+use super::placed::read_placed;
 use super::words::is_word;
 use super::words::next_word;
 
@@ -41,59 +33,9 @@ fn of_row(command: Command) -> CardCommand
     CardCommand::Bad
 }
 
-// A command of `meter` on the line at a place. A bad one stays bad.
-fn of_place(place: u32, command: Command) -> CardCommand
-    ensures { λ r. ⌜ r ≡ ofPlace place command ⌝ }
-{
-    if let Command::Bad = command {
-        CardCommand::Bad
-    } else {
-        CardCommand::On { place, command }
-    }
-}
-
-// Whether a word begins with `SG`.
-fn is_text(word: &[u8]) -> bool
-    ensures { λ r. ⌜ r ≡ isText (now (word .entry)) ⌝ }
-{
-    if word.len() < 2 {
-        return false;
-    }
-    is_word(&word[0..2], SG)
-}
-
-// Reads what follows the place: a text, `audit`, or a command of `meter`.
-fn read_placed(line: &[u8], at: usize, place: u32) -> CardCommand
-    ensures { λ r. ⌜ r ≡ whole Bad (placed (beginning (now (line .entry)) (drop at (now (line .entry)))) place (wordsOf (drop at (now (line .entry))))) ⌝ }
-{
-    let word = next_word(line, at);
-    let start = word.start;
-    let end = word.end;
-    let name = &line[start..end];
-    if is_text(name) {
-        return CardCommand::Text { place, from: start };
-    }
-    if is_word(name, AUDIT) {
-        if ended(line, end) {
-            return CardCommand::Audit(place);
-        }
-        return CardCommand::Bad;
-    }
-    if is_word(name, RP) {
-        return of_place(place, read_period(line, end));
-    }
-    if is_word(name, SIG) {
-        return of_place(place, read_describe(line, end));
-    }
-    if is_word(name, HOOK) {
-        return of_place(place, read_hook(line, end));
-    }
-    CardCommand::Bad
-}
-
 // Reads what follows `at`: the place, and what is for the line there.
 fn read_at(line: &[u8], at: usize) -> CardCommand
-    ensures { λ r. ⌜ r ≡ whole Bad (atPlace (beginning (now (line .entry)) (pastFirst (drop at (now (line .entry))))) (wordsOf (drop at (now (line .entry))))) ⌝ }
+    ensures { λ r. ⌜ r ≡ whole Bad (atPlace (startOf (now (line .entry)) (pastFirst (drop at (now (line .entry))))) (wordsOf (drop at (now (line .entry))))) ⌝ }
 {
     let word = next_word(line, at);
     let start = word.start;

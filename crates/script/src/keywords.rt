@@ -13,6 +13,10 @@ pub(crate) const AT: u64 = 0x7461; // "at"
 
 pub(crate) const AUDIT: u64 = 0x7469647561; // "audit"
 
+pub(crate) const ASK: u64 = 0x6b7361; // "ask"
+
+pub(crate) const COMMIT: u64 = 0x74696d6d6f63; // "commit"
+
 pub(crate) const TICK: u64 = 0x6b636974; // "tick"
 
 pub(crate) const GROUP: u64 = 0x70756f7267; // "group"

@@ -11,6 +11,7 @@ mod keywords;
 mod numbers;
 mod parts;
 mod phases;
+mod placed;
 mod words;
 
 pub use card_lines::read_card;
@@ -44,16 +45,37 @@ pub struct Places {
     pub list: [u32; 64],
 }
 
-// What a line of a card's script asks. A text stands from the byte `from` on to the end of the line. `read_places` reads
-// the places of a group.
+// How a descriptor is given to a line: to be taken, to be asked only, or to be committed with the ticket of an ask.
+pub enum Giving {
+    Take,
+    Ask,
+    Commit(u32),
+}
+
+// What a line of a card's script asks. Only a descriptor is asked or committed. A text stands from the byte `from` on to
+// the end of the line. `read_places` reads the places of a group.
 pub enum CardCommand {
     Bad,
-    Configure { pulse: u32, gap: u32, clock: u32 },
-    On { place: u32, command: Command },
+    Configure {
+        pulse: u32,
+        gap: u32,
+        clock: u32,
+    },
+    On {
+        place: u32,
+        giving: Giving,
+        command: Command,
+    },
     Audit(u32),
-    Text { place: u32, from: usize },
+    Text {
+        place: u32,
+        giving: Giving,
+        from: usize,
+    },
     Tick(u32),
-    Group { interval: u32 },
+    Group {
+        interval: u32,
+    },
 }
 
 // What a phase line says.

@@ -2,6 +2,10 @@
 use borrow.Author.Needs.{needs}
 use borrow.Author.Tests.{ltb-false}
 use mathlib.Core.Path.{sym, _∙_}
+use Prim.Native.Nat.{_+_, _≤_}
+use native.Mathlib.Omega.{arith}
+use lib.ListN.{length}
+use Rattle.printing.specs.Buffer.{longest}
 use Rattle.printing.proofs.BufferLaws.{put-written}
 use Rattle.printing.proofs.notices.put_counters.Statement.{statement}
 use Rattle.printing.proofs.notices.put_counters.Tie as tie
@@ -13,7 +17,11 @@ returns : tie.Need-returns
 returns c = rw (← c .before .is-full .ensures, c .if1 .taken)
 
 put-two-requires : tie.Need-put-two-requires
-put-two-requires c κs = let e = c .before in ltb-false _ _ (sym (e .before .is-full .ensures) ∙ e .if1 .left)
+put-two-requires c κs =
+    let e = c .before in
+    let a = e .before .before .before .args in
+    let room : a .at + longest ≤ length (a .buf .now) = ltb-false _ _ (sym (e .before .is-full .ensures) ∙ e .if1 .left) in
+    omega arith
 
 same-length : tie.Need-same-length
 same-length c = search needs

@@ -24,7 +24,7 @@ returns c =
     let a = first .before .before .before .args in
     let b = a .buf .now in
     let h : a .at ≤ length b = omega (arith, first .before .before .before .pre) in
-    put-number b (a .at) h (a .pcslr) (bytes "\n") (first .put-around .ensures .0) (second .put-around2 .ensures .0)
+    put-number b (a .at) h (a .b) (bytes "\n") (first .put-around .ensures .0) (second .put-around2 .ensures .0)
 
 pub put-two-spec : {M : Type 1} → statement M
 put-two-spec = tie.close (tie.spec put-around-requires put-around-requires-2 same-length returns)

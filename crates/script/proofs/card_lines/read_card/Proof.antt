@@ -5,7 +5,7 @@ use lib.ListN.{drop}
 use Rattle.script.specs.Words.{wordsOf}
 use Rattle.script.specs.Commands.{configure, run}
 use Rattle.script.specs.Cards.{ofRow}
-use Rattle.script.proofs.CardLaws.{asked-whole}
+use Rattle.script.proofs.CardLaws.{mapped-whole}
 use Rattle.script.proofs.card_lines.read_card.Statement.{statement}
 use Rattle.script.proofs.card_lines.read_card.Tie as tie
 
@@ -42,7 +42,7 @@ returns c =
       ← w .others,
       ← e1 .before .is-word .ensures,
       e1 .if1 .taken,
-    ) (asked-whole ofRow configure ws refl (c .of-row .ensures) (c .before .read-configure .ensures))
+    ) (mapped-whole ofRow configure ws refl (c .of-row .ensures) (c .before .read-configure .ensures))
 
 is-word-requires-2 : tie.Need-is-word-requires-2
 is-word-requires-2 c κs = search needs
@@ -68,7 +68,7 @@ returns-2 c =
       e1 .if1 .left,
       ← e2 .before .is-word2 .ensures,
       e2 .if2 .taken,
-    ) (asked-whole ofRow run ws refl (c .of-row2 .ensures) (c .before .read-run .ensures))
+    ) (mapped-whole ofRow run ws refl (c .of-row2 .ensures) (c .before .read-run .ensures))
 
 is-word-requires-3 : tie.Need-is-word-requires-3
 is-word-requires-3 c κs = search needs

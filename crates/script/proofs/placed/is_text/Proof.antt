@@ -1,8 +1,8 @@
 -- `is_text` meets its contract.
 use borrow.Author.Needs.{needs}
 use Rattle.script.proofs.CardLaws.{short-word}
-use Rattle.script.proofs.card_lines.is_text.Statement.{statement}
-use Rattle.script.proofs.card_lines.is_text.Tie as tie
+use Rattle.script.proofs.placed.is_text.Statement.{statement}
+use Rattle.script.proofs.placed.is_text.Tie as tie
 
 returns : tie.Need-returns
 returns c = short-word (c .before .before .args .word .now) (c .if1 .taken)
