@@ -1,16 +1,17 @@
 // What each command does to the card, and what is printed of it.
-use super::describing::describe_from;
 use super::groups;
 use super::output;
 use super::runs;
 use super::ticks::Progress;
 use line::Answered;
+use line::Asked;
 use line::Line;
 use line::Verdict;
 use phase_lines::Phases;
 use printing::Answer;
 use script::CardCommand;
 use script::Command;
+use script::Giving;
 
 // A card: room for its lines, how many there are, the ticks so far, and the bytes of output held back.
 pub struct Card {
@@ -48,7 +49,7 @@ impl Card {
     }
 
     // The line at a place of the row.
-    fn line_at(self, place: u32) -> Line {
+    pub(crate) fn line_at(self, place: u32) -> Line {
         let i = place as usize;
         if i < 65 {
             return self.lines[i];
@@ -75,11 +76,22 @@ impl Card {
     }
 
     // With the line that a command handed back, and its answer put.
-    fn answered(self, place: u32, answer: Answered, out: &mut [u8]) -> Card {
+    pub(crate) fn answered(self, place: u32, answer: Answered, out: &mut [u8]) -> Card {
         let line = answer.line;
         let verdict = answer.verdict;
         let after = self.with_line(place as usize, line);
         after.with_answer(answer_of(verdict), out)
+    }
+
+    // With the line that was asked, and what it told put.
+    pub(crate) fn asked(self, place: u32, told: Asked, out: &mut [u8]) -> Card {
+        let line = told.line;
+        let verdict = told.verdict;
+        let after = self.with_line(place as usize, line);
+        Card {
+            held: output::put_asked(out, after.held, answer_of(verdict), told.ticket),
+            ..after
+        }
     }
 
     // One more line at the end of the row. A refused configuration adds none.
@@ -100,7 +112,14 @@ impl Card {
     }
 
     // A command on the line at a place, a descriptor with the phases that were read.
-    fn on(self, place: u32, command: Command, phases: Phases, out: &mut [u8]) -> Card {
+    fn on(
+        self,
+        place: u32,
+        giving: Giving,
+        command: Command,
+        phases: Phases,
+        out: &mut [u8],
+    ) -> Card {
         let line = self.line_at(place);
         match command {
             Command::Period(rp) => self.answered(place, line.set_period(rp), out),
@@ -109,7 +128,7 @@ impl Card {
                 tariff,
                 phases: _,
                 burst,
-            } => self.answered(place, phases.describe(line, tariff, burst), out),
+            } => self.described(place, giving, tariff, phases, burst, out),
             Command::OnHook(event) => self.answered(place, line.hook(event), out),
             Command::Bad => self.with_answer(Answer::Bad, out),
             Command::Configure {
@@ -154,12 +173,17 @@ impl Card {
         match command {
             CardCommand::Bad => self.with_answer(Answer::Bad, out),
             CardCommand::Configure { pulse, gap, clock } => self.configured(pulse, gap, clock, out),
-            CardCommand::On { place, command: c } => self.on(place, c, phases, out),
+            CardCommand::On {
+                place,
+                giving,
+                command: c,
+            } => self.on(place, giving, c, phases, out),
             CardCommand::Audit(place) => self.audited(place, out),
-            CardCommand::Text { place, from } => {
-                let line = self.line_at(place);
-                self.answered(place, describe_from(line, text, from), out)
-            }
+            CardCommand::Text {
+                place,
+                giving,
+                from,
+            } => self.described_by(place, giving, text, from, out),
             CardCommand::Tick(n) => runs::run(self, n, out),
             CardCommand::Group { interval } => self.grouped(interval, text, out),
         }

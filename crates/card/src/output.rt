@@ -31,6 +31,18 @@ pub(crate) fn put_answer(buf: &mut [u8], at: usize, answer: Answer) -> usize {
     }
 }
 
+// Puts what asking tells; a full buffer is written out first.
+pub(crate) fn put_asked(buf: &mut [u8], at: usize, answer: Answer, ticket: u32) -> usize {
+    let written = printing::put_asked(buf, at, answer, ticket);
+    match written {
+        Written::Next(next) => next,
+        Written::Full => {
+            flush(buf, at);
+            first(printing::put_asked(buf, 0, answer, ticket))
+        }
+    }
+}
+
 // Puts the counters of a line; a full buffer is written out first.
 pub(crate) fn put_counters(buf: &mut [u8], at: usize, cpc: u32, pcslr: u32) -> usize {
     let written = printing::put_counters(buf, at, cpc, pcslr);

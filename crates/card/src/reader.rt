@@ -4,13 +4,16 @@ use descriptor::TariffPart;
 use phase_lines::Phases;
 use script::CardCommand;
 use script::Command;
+use script::Giving;
 
 // A reader: the command that is to be obeyed, which is `tick 0` while there is none; and, while a descriptor waits for
-// phase lines, how many are missing, the place of its line, its burst part, and the phases that were read.
+// phase lines, how many are missing, the place of its line, how it is given, its burst part, and the phases that were
+// read.
 pub struct Reader {
     pub command: CardCommand,
     pub missing: u32,
     pub place: u32,
+    pub giving: Giving,
     pub burst: BurstPart,
     pub phases: Phases,
 }
@@ -26,9 +29,17 @@ fn placed(command: CardCommand, place: u32, n: usize) -> CardCommand {
 // A command, or a bad one where its place is outside a row of n.
 fn allowed(command: CardCommand, n: usize) -> CardCommand {
     match command {
-        CardCommand::On { place, command: _ } => placed(command, place, n),
+        CardCommand::On {
+            place,
+            giving: _,
+            command: _,
+        } => placed(command, place, n),
         CardCommand::Audit(place) => placed(command, place, n),
-        CardCommand::Text { place, from: _ } => placed(command, place, n),
+        CardCommand::Text {
+            place,
+            giving: _,
+            from: _,
+        } => placed(command, place, n),
         CardCommand::Bad => command,
         CardCommand::Configure {
             pulse: _,
@@ -41,7 +52,13 @@ fn allowed(command: CardCommand, n: usize) -> CardCommand {
 }
 
 // The command that is to be obeyed once phase lines have come: none while some are missing, and a bad one where one was.
-fn command_after(missing: u32, bad: bool, place: u32, burst: BurstPart) -> CardCommand {
+fn command_after(
+    missing: u32,
+    bad: bool,
+    place: u32,
+    giving: Giving,
+    burst: BurstPart,
+) -> CardCommand {
     if missing > 0 {
         return CardCommand::Tick(0);
     }
@@ -53,7 +70,11 @@ fn command_after(missing: u32, bad: bool, place: u32, burst: BurstPart) -> CardC
         phases: 0,
         burst,
     };
-    CardCommand::On { place, command }
+    CardCommand::On {
+        place,
+        giving,
+        command,
+    }
 }
 
 impl Reader {
@@ -63,17 +84,19 @@ impl Reader {
             command,
             missing: 0,
             place: 0,
+            giving: Giving::Take,
             burst: BurstPart::Keep,
             phases: Phases::new(),
         }
     }
 
     // With a descriptor that waits for phase lines.
-    fn waiting(missing: u32, place: u32, burst: BurstPart) -> Reader {
+    fn waiting(missing: u32, place: u32, giving: Giving, burst: BurstPart) -> Reader {
         Reader {
             command: CardCommand::Tick(0),
             missing,
             place,
+            giving,
             burst,
             phases: Phases::new(),
         }
@@ -84,23 +107,31 @@ impl Reader {
     }
 
     // With a command on a line, which waits for its phase lines if it has some.
-    fn with_placed(place: u32, command: Command) -> Reader {
+    fn with_placed(place: u32, giving: Giving, command: Command) -> Reader {
         if let Command::Describe {
             tariff: _,
             phases,
             burst,
         } = command {
             if phases > 0 {
-                return Reader::waiting(phases, place, burst);
+                return Reader::waiting(phases, place, giving, burst);
             }
         }
-        Reader::ready(CardCommand::On { place, command })
+        Reader::ready(CardCommand::On {
+            place,
+            giving,
+            command,
+        })
     }
 
     // With a command.
     fn with_command(command: CardCommand) -> Reader {
-        if let CardCommand::On { place, command: c } = command {
-            return Reader::with_placed(place, c);
+        if let CardCommand::On {
+            place,
+            giving,
+            command: c,
+        } = command {
+            return Reader::with_placed(place, giving, c);
         }
         Reader::ready(command)
     }
@@ -109,12 +140,14 @@ impl Reader {
     fn with_phase(self, text: &[u8], missing: u32) -> Reader {
         let old = self.phases;
         let place = self.place;
+        let giving = self.giving;
         let burst = self.burst;
         let phases = old.with(script::read_phase(text));
         Reader {
-            command: command_after(missing, phases.bad, place, burst),
+            command: command_after(missing, phases.bad, place, giving, burst),
             missing,
             place,
+            giving,
             burst,
             phases,
         }

@@ -9,6 +9,7 @@ use lib.ListN.{length, getD}
 use Rattle.dispatcher.specs.Dispatch.{tells}
 use Rattle.demand.specs.Machine.{entries, history}
 use Rattle.demand.proofs.Demand.{demand3}
+use Rattle.demand.proofs.Tickets.{tickets}
 use Rattle.card_demand.specs.Card.{CardCall, CardEntry, Card, Making, cardPast, cardHistory}
 use Rattle.card_demand.specs.Reading.{lineCalls, lineHistory, rowTicks, rowIn, nextIn, reported, since, left, due}
 use Rattle.card_demand.specs.Claims.{noMaking, AllSound, HeardWithin, CardDemand}
@@ -62,6 +63,9 @@ card-demand ms sound cs = record {
   demand3 = λ i l.
       let m = getD ms i noMaking in
       demand3 (m .D) (m .G) (m .clock) (sound i l .0) (sound i l .1) (lineCalls (cardHistory ms cs) i);
+  tickets = λ i l.
+      let m = getD ms i noMaking in
+      tickets (m .D) (m .G) (m .clock) (sound i l .0) (sound i l .1) (lineCalls (cardHistory ms cs) i);
   reply = λ after before e m q c. subst (Replied ms before e) c (replied ms (run-part ms cs after (e ∷ before) q .1));
   group = λ after before e m ps P q c. subst (Replied ms before e) c (replied ms (run-part ms cs after (e ∷ before) q .1)) sound;
   heard = heard ms cs;

@@ -1,4 +1,4 @@
--- R-4 and R-5: one claim about the history of every list of calls on a card of fresh lines with a fresh dispatcher.
+-- R-4 to R-6: one claim about the history of every list of calls on a card of fresh lines with a fresh dispatcher.
 use mathlib.Core.Path.{_≡_}
 use mathlib.Core.Bool.{true, false, cond}
 use mathlib.Core.List.{List, [], _∷_, _++_}
@@ -9,10 +9,11 @@ use Rattle.dispatcher.specs.Dispatch.{tells, badRow, wrongRow, sentOf, turnOf, 
 use Rattle.dispatcher.specs.declared.Waiting.{Waiting}
 use Rattle.dispatcher.specs.declared.Sent.the-variants.{Notice}
 use Rattle.group.specs.Groups.{named, outside}
-use Rattle.demand.specs.Calls.{Call, Answer, accepted, refused, counters, ticked, Entry}
+use Rattle.demand.specs.Calls.{Call, Answer, accepted, refused, asked, counters, ticked, Entry}
 use Rattle.demand.specs.Answers.{answerAfter}
 use Rattle.demand.specs.Machine.{history}
 use Rattle.demand.specs.Demand.{Demand3}
+use Rattle.demand.specs.Tickets.{Tickets}
 use Rattle.card_demand.specs.Card.{CardCall, tickRow, group, CardReply, done, sends, refuses, CardEntry}
 use Rattle.card_demand.specs.Card.{rate, Making, cardPast, cardHistory}
 use Rattle.card_demand.specs.Reading.{lineCalls, lineHistory, rowTicks, rowIn, nextIn, reported, fallen}
@@ -38,7 +39,7 @@ HeardWithin i k part =
 
 -- the number of an answer that refuses, else r
 abbrev pub refusalElse : Answer → CardReply → CardReply
-refusalElse a r = elim a [ accepted k ↦ r | refused number ↦ refuses number | counters m n ↦ r | ticked t ↦ r ]
+refusalElse a r = elim a [ accepted k ↦ r | refused n ↦ refuses n | asked w n ↦ r | counters m n ↦ r | ticked t ↦ r ]
 
 -- where f says what the line at each place would answer, the number of the first place in list order that refuses; done
 -- if none does
@@ -99,6 +100,8 @@ module _ (ms : List Making) (cs : List CardCall) where
         lineHistory h i ≡ history (making i .D) (making i .G) (making i .clock) (lineCalls h i)
     -- and demand 3 holds of them
     pub demand3 : (i : ℕ) → i < length ms → Demand3 (making i .D) (making i .G) (making i .clock) (lineCalls h i)
+    -- and its tickets hold as they do on a line by itself
+    pub tickets : (i : ℕ) → i < length ms → Tickets (making i .D) (making i .G) (making i .clock) (lineCalls h i)
     -- a tick of the dispatcher is refused with 14 exactly for a row that is empty, longer than 64 or of another length
     -- than at first; else it sends the notice of the first line with something to tell, going round from the line after
     -- the last served, or no notice if there is none; a notice carries exactly what fell since the line's last one

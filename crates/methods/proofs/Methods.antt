@@ -49,6 +49,10 @@ module _ {M : Type 1} (𝓤 : URA M) (H : Heap 𝓤) (𝓜 : Model 𝓤 H) (𝓖
         make = told (λ κs a. L.make.clauses 𝓤 H (𝓖 .A) (𝓜 .mem) (𝓡 .run) κs a .ensures tt) (L.make.Met.met 𝓤 H 𝓜 𝓖 𝓡) (λ _ a _ _. fact-mono 𝓤 _ _ (λ e. (rw e (taken (a .0) (a .1 .0) (a .1 .1 .0)), λ cs. rw e)));
         describes = told (λ κs a. L.describe.clauses 𝓤 H (𝓖 .A) (𝓜 .mem) (𝓡 .run) κs a .ensures tt) (L.describe.Met.met 𝓤 H 𝓜 𝓖 𝓡) (λ _ _ _ _. fact-mono 𝓤 _ _ (λ e. rw e));
         describesText = told (λ κs a. L.describe_text.clauses 𝓤 H (𝓖 .A) (𝓜 .mem) (𝓡 .run) κs a .ensures tt) (L.describe_text.Met.met 𝓤 H 𝓜 𝓖 𝓡) (λ _ _ _ _. fact-mono 𝓤 _ _ (λ e. rw e));
+        asks = told (λ κs a. L.ask.clauses 𝓤 H (𝓖 .A) (𝓜 .mem) (𝓡 .run) κs a .ensures tt) (L.ask.Met.met 𝓤 H 𝓜 𝓖 𝓡) (λ _ _ _ _. fact-mono 𝓤 _ _ (λ e. rw e));
+        asksText = told (λ κs a. L.ask_text.clauses 𝓤 H (𝓖 .A) (𝓜 .mem) (𝓡 .run) κs a .ensures tt) (L.ask_text.Met.met 𝓤 H 𝓜 𝓖 𝓡) (λ _ _ _ _. fact-mono 𝓤 _ _ (λ e. rw e));
+        commits = told (λ κs a. L.commit.clauses 𝓤 H (𝓖 .A) (𝓜 .mem) (𝓡 .run) κs a .ensures tt) (L.commit.Met.met 𝓤 H 𝓜 𝓖 𝓡) (λ _ _ _ _. fact-mono 𝓤 _ _ (λ e. rw e));
+        commitsText = told (λ κs a. L.commit_text.clauses 𝓤 H (𝓖 .A) (𝓜 .mem) (𝓡 .run) κs a .ensures tt) (L.commit_text.Met.met 𝓤 H 𝓜 𝓖 𝓡) (λ _ _ _ _. fact-mono 𝓤 _ _ (λ e. rw e));
         hooks = told (λ κs a. L.hook.clauses 𝓤 H (𝓖 .A) (𝓜 .mem) (𝓡 .run) κs a .ensures tt) (L.hook.Met.met 𝓤 H 𝓜 𝓖 𝓡) (λ _ _ _ _. fact-mono 𝓤 _ _ (λ e. rw e));
         periods = told (λ κs a. L.set_period.clauses 𝓤 H (𝓖 .A) (𝓜 .mem) (𝓡 .run) κs a .ensures tt) (L.set_period.Met.met 𝓤 H 𝓜 𝓖 𝓡) (λ _ _ _ _. fact-mono 𝓤 _ _ (λ e. rw e));
         clears = told (λ κs a. L.clear_period.clauses 𝓤 H (𝓖 .A) (𝓜 .mem) (𝓡 .run) κs a .ensures tt) (L.clear_period.Met.met 𝓤 H 𝓜 𝓖 𝓡) (λ _ _ _ _. fact-mono 𝓤 _ _ (λ e. rw e));

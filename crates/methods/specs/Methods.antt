@@ -15,13 +15,14 @@ use denote.Triple.Entry.{Args, Res}
 use denote.Triple.Spec.{Meets}
 use denote.Triple.Clauses.{Ended, AtExit, Clauses, closing}
 use Rattle.phase_lists.specs.Lists.{listsOf}
+use Rattle.grammar.specs.Meaning.{descriptor, readingOf}
 use Rattle.line.proofs.Line as L
 use Rattle.lent.proofs.tick_in_place as lent
 use Rattle.descriptor.specs.Refusals.{soundConfiguration}
-use Rattle.demand.specs.Calls.{Call, hook, period, noPeriod, audit, tick}
+use Rattle.demand.specs.Calls.{Call, ask, hook, period, noPeriod, audit, tick}
 use Rattle.demand.specs.Calls.{Answer, accepted, refused, ticked}
-use Rattle.demand.specs.Machine.{verdictTold, outcome, answered, audited, moved, step, entryFor}
-use Rattle.demand.specs.Machine.{parts, text, past, afterCalls, entries, history}
+use Rattle.demand.specs.Machine.{verdictTold, outcome, answered, ticketed, audited, moved, step, entryFor}
+use Rattle.demand.specs.Machine.{parts, text, commit, past, afterCalls, entries, history}
 
 -- of the values passed to a call, its result, and the values passed as they are after it
 abbrev pub Of {ℓ} : Ended → Type ℓ → Type ℓ
@@ -53,6 +54,18 @@ module _ {M : Type 1} (𝓤 : URA M) (H : Heap 𝓤) (𝓜 : Model 𝓤 H) (𝓖
         step l (parts t ls b) ≡ answered r)
     pub describesText : Does L.describe_text.ended L.describe_text.Symbol.routine
         (λ _ (l, (bytes, _)) r _. step l (text (now bytes)) ≡ answered r)
+    pub asks : Does L.ask.ended L.ask.Symbol.routine
+        (λ _ (l, (t, (pri, (pcx, (repx, (pcn, (repn, (ci, (pd, (b, _)))))))))) r _.
+        let ls = listsOf (now pri) (now pcx) (now repx) (now pcn) (now repn) (now ci) (now pd) in
+        step l (ask (descriptor t ls b)) ≡ ticketed r)
+    pub asksText : Does L.ask_text.ended L.ask_text.Symbol.routine
+        (λ _ (l, (bytes, _)) r _. step l (ask (readingOf (now bytes))) ≡ ticketed r)
+    pub commits : Does L.commit.ended L.commit.Symbol.routine
+        (λ _ (l, (n, (t, (pri, (pcx, (repx, (pcn, (repn, (ci, (pd, (b, _))))))))))) r _.
+        let ls = listsOf (now pri) (now pcx) (now repx) (now pcn) (now repn) (now ci) (now pd) in
+        step l (commit n (descriptor t ls b)) ≡ answered r)
+    pub commitsText : Does L.commit_text.ended L.commit_text.Symbol.routine
+        (λ _ (l, (n, (bytes, _))) r _. step l (commit n (readingOf (now bytes))) ≡ answered r)
     pub hooks : Does L.hook.ended L.hook.Symbol.routine (λ _ (l, (k, _)) r _. step l (hook k) ≡ answered r)
     pub periods : Does L.set_period.ended L.set_period.Symbol.routine
         (λ _ (l, (n, _)) r _. step l (period n) ≡ answered r)

@@ -3,6 +3,9 @@ ghost use mathlib.Core.Path.{_≡_};
 ghost use lib.ListN.{take, drop};
 ghost use Rattle.line.specs.Lines.{describeOf};
 ghost use Rattle.phase_lines.specs.Gathering.{noneRead, withPhase, withLine, firstOf, listsIn};
+
+mod tickets;
+
 use descriptor::BurstPart;
 use descriptor::TariffPart;
 use line::Answered;
@@ -18,7 +21,7 @@ pub struct Phases {
 }
 
 // The first k numbers of the list that stands from a place on.
-fn part(lists: &[u32], from: usize, k: usize) -> &[u32]
+pub(crate) fn part(lists: &[u32], from: usize, k: usize) -> &[u32]
     ensures { λ r. ⌜ now r ≡ take k (drop from (now (lists .entry))) ⌝ }
 {
     if from <= lists.len() {
