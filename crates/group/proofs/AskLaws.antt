@@ -18,32 +18,31 @@ use Rattle.descriptor.specs.declared.Refusal.the-variants.{Place}
 use Rattle.phase_lists.specs.Tables.{noTable}
 use Rattle.tariff.specs.Tariffs.{isEndless}
 use Rattle.burst.specs.Bursts.{isRunning}
-use Rattle.line.specs.Lines.{blankLine, withState}
+use Rattle.line.specs.Lines.{blankLine}
 use Rattle.line.specs.declared.Line.{Line}
 use Rattle.line.specs.declared.Verdict.{Verdict}
 use Rattle.line.specs.declared.Verdict.the-variants.{Accepted, Refused}
 use Rattle.group.specs.Groups.{outside, orElse, firstRefusal}
-use Rattle.group.specs.Passes.{isMarked, askedOf, ruledAnswer, refusedOf, heardOf, stepOf, placeIn, lineAt, stepAt, rowAt, endOf, rowBy}
+use Rattle.group.specs.Passes.{isMarked, askedOf, ruledAnswer, refusedOf, heardOf, stepOf, placeIn, lineAt, withPassed, stepAt, rowAt, endOf, rowBy}
 use Rattle.group.specs.declared.Pass.{Pass}
 use Rattle.group.specs.declared.Passed.{Passed}
 use Rattle.group.proofs.Passing.{cond-ind, end-stuck}
 
 -- ---- one place
-asks-state : (s : Pass) (n p S : ℕ) (t : State) → s .rates ≡ false → stepOf s n p S t .state ≡ t
+asks-line : (s : Pass) (n p : ℕ) (l : Line) → s .rates ≡ false → withPassed l (stepOf s n p (l .spacing) (l .serial) (l .state)) ≡ l
 unfolding stepOf
-asks-state s n p S t e = rw e (cond-ind (λ (r : Passed). r .state ≡ t) (ltb p n) refl refl)
+asks-line s n p l e = rw e (cond-ind (λ (r : Passed). withPassed l r ≡ l) (ltb p n) refl refl)
 
-asks-on : (s : Pass) (n p S : ℕ) (t : State) → stepOf s n p S t .pass .rates ≡ s .rates
+asks-on : (s : Pass) (n p S k : ℕ) (t : State) → stepOf s n p S k t .pass .rates ≡ s .rates
 unfolding stepOf
-asks-on s n p S t = cond-ind Same (ltb p n) (cond-ind Same (s .rates) (cond-ind Same (isMarked (s .marks) p) refl refl) refl) refl
+asks-on s n p S k t = cond-ind Same (ltb p n) (cond-ind Same (s .rates) (cond-ind Same (isMarked (s .marks) p) refl refl) refl) refl
   where
     Same : Passed → Type 0
     Same r = r .pass .rates ≡ s .rates
 
 asks-row : (n : ℕ) (s : Pass) (ls : List Line) (p : ℕ) → s .rates ≡ false → rowAt n s ls p ≡ ls
 asks-row n s ls p e =
-    let l = lineAt ls (placeIn p n) in
-    ap (λ (t : State). set ls (placeIn p n) (withState l t)) (asks-state s n p (l .spacing) (l .state) e) ∙ set-getD ls (placeIn p n) blankLine
+    ap (set ls (placeIn p n)) (asks-line s n p (lineAt ls (placeIn p n)) e) ∙ set-getD ls (placeIn p n) blankLine
 
 -- ---- the list
 pub asked-row : (n : ℕ) (s : Pass) (ls : List Line) (ps : List ℕ) → s .rates ≡ false → rowBy n s ls ps ≡ ls
@@ -51,7 +50,7 @@ asked-row n s ls [] e = refl
 asked-row n s ls (p ∷ ps) e =
     let l = lineAt ls (placeIn p n) in
     cond-ind (λ (zs : List Line). zs ≡ ls) (ltb 0 (s .limit))
-    (asked-row n (stepAt n s ls p .pass) (rowAt n s ls p) ps (asks-on s n p (l .spacing) (l .state) ∙ e) ∙ asks-row n s ls p e) refl
+    (asked-row n (stepAt n s ls p .pass) (rowAt n s ls p) ps (asks-on s n p (l .spacing) (l .serial) (l .state) ∙ e) ∙ asks-row n s ls p e) refl
 
 else-assoc : (u v w : Verdict) → orElse (orElse u v) w ≡ orElse u (orElse v w)
 else-assoc (Accepted k) v w = refl

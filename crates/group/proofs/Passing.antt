@@ -8,9 +8,8 @@ use native.Mathlib.Nat.{not-suc-le-zero, le-of-suc-le-suc}
 use lib.Dec.{ltb}
 use lib.ListN.{length, getD, length-set}
 use Rattle.state.specs.declared.State.{State}
-use Rattle.line.specs.Lines.{withState}
 use Rattle.line.specs.declared.Line.{Line}
-use Rattle.group.specs.Passes.{isMarked, stepOf, placeIn, lineAt, stepAt, rowAt, endOf, rowBy, Open}
+use Rattle.group.specs.Passes.{isMarked, stepOf, placeIn, lineAt, withPassed, stepAt, rowAt, endOf, rowBy, Open}
 use Rattle.group.specs.declared.Pass.{Pass}
 use Rattle.group.specs.declared.Passed.{Passed}
 
@@ -19,15 +18,15 @@ cond-ind Q true p q = p
 cond-ind Q false p q = q
 
 -- a step leaves the limit, or makes it 0
-pub step-open : (s : Pass) (n p S : ℕ) (t : State) (m : ℕ) → Open (s .limit) n m → Open (stepOf s n p S t .pass .limit) n m
+pub step-open : (s : Pass) (n p S k : ℕ) (t : State) (m : ℕ) → Open (s .limit) n m → Open (stepOf s n p S k t .pass .limit) n m
 unfolding stepOf
-step-open s n p S t m o = cond-ind Ok (ltb p n) (cond-ind Ok (s .rates) (cond-ind Ok (isMarked (s .marks) p) o o) o) (inl refl)
+step-open s n p S k t m o = cond-ind Ok (ltb p n) (cond-ind Ok (s .rates) (cond-ind Ok (isMarked (s .marks) p) o o) o) (inl refl)
   where
     Ok : Passed → Type 0
     Ok r = Open (r .pass .limit) n m
 
 pub row-at-length : (n : ℕ) (s : Pass) (ls : List Line) (p : ℕ) → length (rowAt n s ls p) ≡ length ls
-row-at-length n s ls p = length-set ls (placeIn p n) (withState (lineAt ls (placeIn p n)) (stepAt n s ls p .state))
+row-at-length n s ls p = length-set ls (placeIn p n) (withPassed (lineAt ls (placeIn p n)) (stepAt n s ls p))
 
 -- a pass leaves as many lines, and no place or all of them
 pub row-length : (n : ℕ) (s : Pass) (ls : List Line) (ps : List ℕ) → length (rowBy n s ls ps) ≡ length ls
@@ -40,7 +39,7 @@ end-open n m s ls [] o = o
 end-open n m s ls (p ∷ ps) o =
     let l = lineAt ls (placeIn p n) in
     cond-ind (λ (z : Pass). Open (z .limit) n m) (ltb 0 (s .limit))
-    (end-open n m (stepAt n s ls p .pass) (rowAt n s ls p) ps (step-open s n p (l .spacing) (l .state) m o)) o
+    (end-open n m (stepAt n s ls p .pass) (rowAt n s ls p) ps (step-open s n p (l .spacing) (l .serial) (l .state) m o)) o
 
 -- ---- from place i of the list on
 abbrev pub endFrom : ℕ → ℕ → Pass → List Line → List ℕ → Pass

@@ -19,16 +19,17 @@ use Rattle.descriptor.specs.declared.TariffPart.the-variants.{Rate}
 use Rattle.descriptor.specs.declared.BurstPart.the-variants.{Keep}
 use Rattle.tariff.specs.Tariffs.{isEndless}
 use Rattle.burst.specs.Bursts.{isRunning}
+use Rattle.state.specs.Rules.{oneMore}
 use Rattle.state.specs.States.{withRate}
 use Rattle.state.specs.declared.State.{State}
-use Rattle.line.specs.Lines.{blankLine, withState, tariffChanged, burstChanged, answeredBy}
+use Rattle.line.specs.Lines.{blankLine, withSerial, withState, tariffChanged, burstChanged, answeredBy}
 use Rattle.line.specs.declared.Line.{Line}
 use Rattle.line.specs.declared.Answered.{Answered}
 use Rattle.line.specs.declared.Verdict.{Verdict}
 use Rattle.line.specs.declared.Verdict.the-variants.{Accepted, Refused}
 use Rattle.line.proofs.Described.{describe-is}
 use Rattle.group.specs.Groups.{rateOf, named, outside, orElse, firstRefusal, ratedRow, numberOf}
-use Rattle.group.specs.Passes.{isMarked, askedOf, ruledAnswer, countedOf, passed, stepOf, placeIn, lineAt, stepAt, rowAt, answerOf, endOf, rowBy}
+use Rattle.group.specs.Passes.{isMarked, askedOf, ruledAnswer, countedOf, passed, stepOf, placeIn, lineAt, withPassed, stepAt, rowAt, answerOf, endOf, rowBy}
 use Rattle.group.specs.declared.Pass.{Pass}
 use Rattle.group.specs.declared.Passed.{Passed}
 use Rattle.group.specs.declared.Rated.{Rated}
@@ -54,11 +55,11 @@ module _ (l : Line) (P : ℕ) where
       by Allowed = refl
       by (TurnedDown r) = refl
 
-  -- where it accepts, the line after it has the rate
-  rate-line : (k : ℕ) → rateOf l P .verdict ≡ Accepted k → rateOf l P .line ≡ rated
+  -- where it accepts, the line after it has the rate, and its serial is one more
+  rate-line : (k : ℕ) → rateOf l P .verdict ≡ Accepted k → rateOf l P .line ≡ withSerial rated (oneMore (l .serial))
   rate-line k e = ap (λ (a : Answered). a .line) rate-is ∙ by ruled (sym (ap (λ (a : Answered). a .verdict) rate-is) ∙ e)
     where
-      by : (u : Ruling) → answeredBy u l rated 0 .verdict ≡ Accepted k → answeredBy u l rated 0 .line ≡ rated
+      by : (u : Ruling) → answeredBy u l rated 0 .verdict ≡ Accepted k → answeredBy u l rated 0 .line ≡ withSerial rated (oneMore (l .serial))
       by Allowed q = refl
       by (TurnedDown r) q = absurd (let o : _≡_ {A = ℕ} 0 1 = cc in omega arith)
 
@@ -136,14 +137,14 @@ or-known f p e b i = by (eqb i p) refl
     by true q = rw (ap f (eqb-true i p q) ∙ e)
     by false q = refl
 
-marked-step : (s : Pass) (n p S : ℕ) (t : State) → ltb p n ≡ true → s .rates ≡ true → isMarked (s .marks) p ≡ true → stepOf s n p S t ≡ passed s t
+marked-step : (s : Pass) (n p S k : ℕ) (t : State) → ltb p n ≡ true → s .rates ≡ true → isMarked (s .marks) p ≡ true → stepOf s n p S k t ≡ passed s k t
 unfolding stepOf
-marked-step s n p S t l e h = rw (l, e, h)
+marked-step s n p S k t l e h = rw (l, e, h)
 
-fresh-step : (s : Pass) (n p S : ℕ) (t : State) → ltb p n ≡ true → s .rates ≡ true → isMarked (s .marks) p ≡ false →
-    stepOf s n p S t ≡ passed (countedOf s p) (withRate t (s .interval))
+fresh-step : (s : Pass) (n p S k : ℕ) (t : State) → ltb p n ≡ true → s .rates ≡ true → isMarked (s .marks) p ≡ false →
+    stepOf s n p S k t ≡ passed (countedOf s p) (oneMore k) (withRate t (s .interval))
 unfolding stepOf
-fresh-step s n p S t l e h = rw (l, e, h)
+fresh-step s n p S k t l e h = rw (l, e, h)
 
 module _ (ls : List Line) (most : length ls ≤ 64) where
   abbrev n : ℕ
@@ -180,19 +181,19 @@ module _ (ls : List Line) (most : length ls ≤ 64) where
     there = lineAt row (placeIn p n)
 
     -- one that is rated already
-    again : f p ≡ true → stepOf s n p (there .spacing) (there .state) ≡ passed s (there .state)
-    again e = marked-step s n p (there .spacing) (there .state) (lt-ltb p n l) (m .rates) (m .marks p l ∙ e)
+    again : f p ≡ true → stepOf s n p (there .spacing) (there .serial) (there .state) ≡ passed s (there .serial) (there .state)
+    again e = marked-step s n p (there .spacing) (there .serial) (there .state) (lt-ltb p n l) (m .rates) (m .marks p l ∙ e)
 
     again-row : f p ≡ true → rowAt n s row p ≡ row
-    again-row e = ap (λ (r : Passed). set row (placeIn p n) (withState there (r .state))) (again e) ∙ set-getD row (placeIn p n) blankLine
+    again-row e = ap (λ (r : Passed). set row (placeIn p n) (withPassed there r)) (again e) ∙ set-getD row (placeIn p n) blankLine
 
     -- one that is not
-    once : f p ≡ false → stepOf s n p (there .spacing) (there .state) ≡ passed (countedOf s p) (withRate (there .state) (s .interval))
-    once e = fresh-step s n p (there .spacing) (there .state) (lt-ltb p n l) (m .rates) (m .marks p l ∙ e)
+    once : f p ≡ false → stepOf s n p (there .spacing) (there .serial) (there .state) ≡ passed (countedOf s p) (oneMore (there .serial)) (withRate (there .state) (s .interval))
+    once e = fresh-step s n p (there .spacing) (there .serial) (there .state) (lt-ltb p n l) (m .rates) (m .marks p l ∙ e)
 
     once-row : f p ≡ false → (j : ℕ) → rateOf (lineAt ls p) (s .interval) .verdict ≡ Accepted j → rowAt n s row p ≡ ratedRow (λ i. f i || eqb i p) (s .interval) ls
     once-row e j acc =
-        ap (λ (r : Passed). set row (placeIn p n) (withState there (r .state))) (once e)
+        ap (λ (r : Passed). set row (placeIn p n) (withPassed there r)) (once e)
         ∙ rw (lt-ltb p n l, rated-other f (s .interval) ls p e, ← rate-line (lineAt ls p) (s .interval) j acc) (rated-set f (s .interval) ls p l e)
 
   pub rated-end : (ps : List ℕ) (s : Pass) (f : ℕ → Bool) → Marks s f → length ps ≤ s .limit → outside ps n ≡ false → (k : ℕ) →

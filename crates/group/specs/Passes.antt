@@ -20,7 +20,7 @@ use Rattle.burst.specs.Bursts.{isRunning}
 use Rattle.state.specs.Rules.{oneMore}
 use Rattle.state.specs.States.{withRate}
 use Rattle.state.specs.declared.State.{State}
-use Rattle.line.specs.Lines.{blankLine, withState}
+use Rattle.line.specs.Lines.{blankLine, withSerial, withState}
 use Rattle.line.specs.declared.Line.{Line}
 use Rattle.line.specs.declared.Verdict.{Verdict}
 use Rattle.line.specs.declared.Verdict.the-variants.{Accepted, Refused}
@@ -85,16 +85,17 @@ abbrev pub countedOf : Pass → ℕ → Pass
 countedOf s p =
     passOf (s .interval) (s .limit) (s .rates) (s .verdict) (withMark (s .marks) p) (oneMore (s .lines))
 
-abbrev pub passed : Pass → State → Passed
-passed s t = record { pass = s; state = t }
+abbrev pub passed : Pass → ℕ → State → Passed
+passed s serial t = record { pass = s; serial = serial; state = t }
 
--- the place p of a row of n, where a line of this spacing and state is
-unfoldable pub stepOf : Pass → ℕ → ℕ → ℕ → State → Passed
-stepOf s n p S t =
+-- the place p of a row of n, where a line of this spacing, serial and state is: a rate adds 1 to the serial
+unfoldable pub stepOf : Pass → ℕ → ℕ → ℕ → ℕ → State → Passed
+stepOf s n p S serial t =
     cond (ltb p n)
     (cond (s .rates)
-    (cond (isMarked (s .marks) p) (passed s t) (passed (countedOf s p) (withRate t (s .interval))))
-    (passed (heardOf s (askedOf S t (s .interval))) t)) (passed (refusedOf s Place) t)
+    (cond (isMarked (s .marks) p) (passed s serial t)
+    (passed (countedOf s p) (oneMore serial) (withRate t (s .interval))))
+    (passed (heardOf s (askedOf S t (s .interval))) serial t)) (passed (refusedOf s Place) serial t)
 
 abbrev pub answerOf : Pass → Rated
 answerOf s = record { verdict = s .verdict; lines = s .lines }
@@ -108,12 +109,16 @@ placeIn p n = cond (ltb p n) p 0
 abbrev pub lineAt : List Line → ℕ → Line
 lineAt ls i = getD ls i blankLine
 
+-- a line with the serial and the state that it has after its place
+abbrev pub withPassed : Line → Passed → Line
+withPassed l r = withState (withSerial l (r .serial)) (r .state)
+
 -- in a row of n: the pass after place p, and the row
 abbrev pub stepAt : ℕ → Pass → List Line → ℕ → Passed
-stepAt n s ls p = let l = lineAt ls (placeIn p n) in stepOf s n p (l .spacing) (l .state)
+stepAt n s ls p = let l = lineAt ls (placeIn p n) in stepOf s n p (l .spacing) (l .serial) (l .state)
 
 abbrev pub rowAt : ℕ → Pass → List Line → ℕ → List Line
-rowAt n s ls p = let k = placeIn p n in set ls k (withState (lineAt ls k) (stepAt n s ls p .state))
+rowAt n s ls p = let k = placeIn p n in set ls k (withPassed (lineAt ls k) (stepAt n s ls p))
 
 -- the pass after the list, and the row: it ends where there is no place any more
 abbrev pub endOf : ℕ → Pass → List Line → List ℕ → Pass

@@ -25,8 +25,9 @@ pub(crate) struct Pass {
     pub lines: u32,
 }
 
-// The pass after a place, and the state of the line there.
+// The pass after a place, and the serial and the state of the line there.
 pub(crate) struct Passed {
     pub pass: Pass,
+    pub serial: u32,
     pub state: State,
 }

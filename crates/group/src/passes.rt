@@ -1,7 +1,6 @@
 // One place of a pass: what becomes of the pass and of the line there.
 ghost use mathlib.Core.Path.{_≡_};
 ghost use lib.Dec.{ltb};
-ghost use Rattle.state.specs.Rules.{oneMore};
 ghost use Rattle.group.specs.Passes.{askingOf, ratingOf, refusedOf, heardOf, countedOf, stepOf, answerOf};
 use super::Pass;
 use super::Passed;
@@ -13,13 +12,6 @@ use super::marks::with_mark;
 use descriptor::Refusal;
 use line::Verdict;
 use state::State;
-
-// One more, held at the largest number.
-fn one_more(n: u32) -> u32
-    ensures { λ r. ⌜ r ≡ oneMore n ⌝ }
-{
-    if n < u32::MAX { n + 1 } else { n }
-}
 
 // Whether p is a place in a row of n.
 pub(crate) fn is_inside(p: u32, n: usize) -> bool
@@ -89,32 +81,47 @@ impl Pass {
     {
         Pass {
             marks: with_mark(self.marks, place),
-            lines: one_more(self.lines),
+            lines: state::one_more(self.lines),
             ..self
         }
     }
 
-    // One place of the list in a row of n, with the spacing and the state of the line there.
-    pub(crate) fn step(self, n: usize, place: u32, spacing: u32, state: State) -> Passed
-        ensures { λ r. ⌜ r ≡ stepOf self n place spacing state ⌝ }
+    // One place of the list in a row of n, with the spacing, the serial and the state of the line there.
+    pub(crate) fn step(
+        self,
+        n: usize,
+        place: u32,
+        spacing: u32,
+        serial: u32,
+        state: State,
+    ) -> Passed
+        ensures { λ r. ⌜ r ≡ stepOf self n place spacing serial state ⌝ }
     {
         if !is_inside(place, n) {
             return Passed {
                 pass: self.refused(Refusal::Place),
+                serial,
                 state,
             };
         }
         if !self.rates {
             return Passed {
                 pass: self.heard(asked(spacing, state, self.interval)),
+                serial,
                 state,
             };
         }
         if is_marked(self.marks, place) {
-            return Passed { pass: self, state };
+            return Passed {
+                pass: self,
+                serial,
+                state,
+            };
         }
+        let next = state::one_more(serial);
         Passed {
             pass: self.counted(place),
+            serial: next,
             state: state.rated(self.interval),
         }
     }

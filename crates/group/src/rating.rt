@@ -18,7 +18,7 @@ fn place_in(p: u32, n: usize) -> usize
     0
 }
 
-// One pass over the places of a list, in list order. Only the state of a line is stored.
+// One pass over the places of a list, in list order. Only the serial and the state of a line are stored.
 pub(crate) fn pass_over(row: &mut [Line], places: &[u32], start: Pass) -> Pass
     requires { ⌜ Open (start .limit) (length (now row)) (length (now places)) ⌝ }
     ensures { λ r. ⌜ (r ≡ endOf (length (now (row .entry))) start (now (row .entry)) (now (places .entry))) × (now (row .exit) ≡ rowBy (length (now (row .entry))) start (now (row .entry)) (now (places .entry))) ⌝ }
@@ -28,7 +28,8 @@ pub(crate) fn pass_over(row: &mut [Line], places: &[u32], start: Pass) -> Pass
     while i < pass.limit {
         let p = places[i];
         let k = place_in(p, row.len());
-        let after = pass.step(row.len(), p, row[k].spacing, row[k].state);
+        let after = pass.step(row.len(), p, row[k].spacing, row[k].serial, row[k].state);
+        row[k].serial = after.serial;
         row[k].state = after.state;
         pass = after.pass;
         i += 1;

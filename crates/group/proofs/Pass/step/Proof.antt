@@ -42,6 +42,9 @@ returns-3 c =
     let i = r .before .before in
     rw (holds (i .before .is-inside .ensures) (i .if1 .left), not-false (i .before .before .args .self .rates) (r .if2 .left), ← c .before .is-marked .ensures, c .if3 .taken)
 
+one-more-requires : tie.Need-one-more-requires
+one-more-requires c κs = search needs
+
 counted-requires : tie.Need-counted-requires
 counted-requires c κs = search needs
 
@@ -52,12 +55,13 @@ rated-requires c κs = search needs
 returns-4 : tie.Need-returns-4
 unfolding stepOf
 returns-4 c =
-    let m = c .before .before in
+    let m = c .before .before .before in
     let r = m .before .before in
     let i = r .before .before in
     rw (
       c .rated .ensures,
       c .before .counted .ensures,
+      ← c .before .before .one-more .ensures,
       holds (i .before .is-inside .ensures) (i .if1 .left),
       not-false (i .before .before .args .self .rates) (r .if2 .left),
       ← m .before .is-marked .ensures,
@@ -76,6 +80,7 @@ step-spec =
     returns-2
     is-marked-requires
     returns-3
+    one-more-requires
     counted-requires
     rated-requires
     returns-4)

@@ -1,5 +1,5 @@
 -- `pass_over` meets its contract: a walk of its MIR, by hand.
--- Both borrows are opened once, before the loop, and closed once, after it: the row's wholly, the places' to read. A turn reads a place, takes the line there out of the row, hands its spacing and its state to `step`, stores the state of the answer, and puts the line back.
+-- Both borrows are opened once, before the loop, and closed once, after it: the row's wholly, the places' to read. A turn reads a place, takes the line there out of the row, hands its spacing, its serial and its state to `step`, stores the serial and the state of the answer, and puts the line back.
 use mathlib.Core.Path.{_≡_, refl, sym, _∙_, ap, subst}
 use Prim.Native.Nat.{ℕ, _+_, _-_, _*_, _<_, _≤_, _^_, zero-le}
 use native.Mathlib.Nat.{le-antisymm}
@@ -50,14 +50,14 @@ use denote.Triple.Spec.{Meets, tripleOf}
 use denote.Triple.Table.{entered, cited}
 use denote.Triple.Clauses.{ensured, lasts}
 use denote.Triple.Walked.{says, needs, Stays, stay-slice, stay-none-slice, stay-none, walkOf, AllGo, goes-slice, goes-none-slice, goes-none, Walks, ends-at, walked, walk-meets}
-use Rattle.line.specs.Lines.{blankLine, withState}
+use Rattle.line.specs.Lines.{blankLine, withSerial}
 use Rattle.line.specs.declared.Line.{Line}
-use Rattle.group.specs.Passes.{stepOf, placeIn, lineAt, rowAt, Open, endOf, rowBy}
+use Rattle.group.specs.Passes.{stepOf, placeIn, lineAt, withPassed, rowAt, Open, endOf, rowBy}
 use Rattle.group.specs.declared.Pass.{Pass}
 use Rattle.group.specs.declared.Passed.{Passed}
 use Rattle.lent.proofs.Answer.{Told, answers, ToldInt, answers-int}
 use Rattle.lent.proofs.Turns.{next-fits, holds, fails, either}
-use Rattle.lent.proofs.Values.{line-val, state-val, IsState, spacing-fits, state-of, with-state-is}
+use Rattle.lent.proofs.Values.{line-val, state-val, IsLine, IsState, spacing-fits, serial-fits, state-of, with-serial-is, with-state-is}
 use Rattle.group.proofs.Passing.{step-open, row-at-length, endFrom, rowFrom, end-turn, row-turn, end-done, row-done, end-stuck, row-stuck}
 use Rattle.line.proofs.Line as L
 use Rattle.line.proofs.Line.Laws as L′
@@ -107,11 +107,21 @@ place-in p n z = by (ltb p n) (ltb→lt p n)
 abbrev pass-val : Pass → Val
 pass-val = LL.val S.the-type S′.the-laws
 
-pass-of : (r : Passed) → Is D.the-row r (LL.val D.the-type D′.the-laws r ∷ []) → Is S.the-row (r .pass) (pass-val (r .pass) ∷ [])
+abbrev IsPassed : Passed → Type 0
+IsPassed r = Is D.the-row r (LL.val D.the-type D′.the-laws r ∷ [])
+
+pass-of : (r : Passed) → IsPassed r → Is S.the-row (r .pass) (pass-val (r .pass) ∷ [])
 pass-of r is = LL.owed D.the-type D′.the-laws r _ is .0
 
-state-in : (r : Passed) → Is D.the-row r (LL.val D.the-type D′.the-laws r ∷ []) → IsState (r .state)
-state-in r is = LL.owed D.the-type D′.the-laws r _ is .1 .0
+serial-in : (r : Passed) → IsPassed r → r .serial < 2 ^ 32
+serial-in r is = LL.owed D.the-type D′.the-laws r _ is .1 .0 .1
+
+state-in : (r : Passed) → IsPassed r → IsState (r .state)
+state-in r is = LL.owed D.the-type D′.the-laws r _ is .1 .1 .0
+
+-- the line after its place is a line
+with-passed-is : (h : Line) (r : Passed) → IsLine h → IsPassed r → IsLine (withPassed h r)
+with-passed-is h r was is = with-state-is (withSerial h (r .serial)) (r .state) (with-serial-is h (r .serial) was (serial-in r is)) (state-in r is)
 
 -- ---- the loop's variant, with what holds at it: the index, the row as it is, and the pass
 record Turn (start : Pass) (ys : List Line) (ps : List ℕ) : Type 0 where
@@ -143,10 +153,10 @@ module _ {M : Type 1} (𝓤 : URA M) (H : Heap 𝓤) (A : Atoms 𝓤) (at-mem : 
   place-has p n r = exE 𝓤 _ (λ ws. snd∗ 𝓤 (sem 𝓤 H A (lasts places.ended tt (p, (n, tt)) ws)) (fact 𝓤 (r ≡ placeIn p n)))
 
   abbrev step-says : Pass → ℕ → ℕ → Line → Passed → SProp 𝓤
-  step-says s n p h r = ensured 𝓤 H A step.ended (step.clauses 𝓤 H A at-mem run) tt (s, (n, (p, (h .spacing, (h .state, tt))))) tt r
+  step-says s n p h r = ensured 𝓤 H A step.ended (step.clauses 𝓤 H A at-mem run) tt (s, (n, (p, (h .spacing, (h .serial, (h .state, tt)))))) tt r
 
-  step-is : (s : Pass) (n p : ℕ) (h : Line) (r : Passed) → ent 𝓤 (step-says s n p h r) (fact 𝓤 (r ≡ stepOf s n p (h .spacing) (h .state)))
-  step-is s n p h r = exE 𝓤 _ (λ ws. snd∗ 𝓤 (sem 𝓤 H A (lasts step.ended tt (s, (n, (p, (h .spacing, (h .state, tt))))) ws)) (fact 𝓤 (r ≡ stepOf s n p (h .spacing) (h .state))))
+  step-is : (s : Pass) (n p : ℕ) (h : Line) (r : Passed) → ent 𝓤 (step-says s n p h r) (fact 𝓤 (r ≡ stepOf s n p (h .spacing) (h .serial) (h .state)))
+  step-is s n p h r = exE 𝓤 _ (λ ws. snd∗ 𝓤 (sem 𝓤 H A (lasts step.ended tt (s, (n, (p, (h .spacing, (h .serial, (h .state, tt)))))) ws)) (fact 𝓤 (r ≡ stepOf s n p (h .spacing) (h .serial) (h .state))))
 
 module _ {M : Type 1} (𝓤 : URA M) (H : Heap 𝓤) (A : Atoms 𝓤) (W : Given 𝓤 H A) (at-mem : Memory → SProp 𝓤) (run : Routine → Fun 𝓤) (κ κ₁ : Lft) (q q₁ : Share) (b o : ℕ) (γ : GName) (ys : List Line) (b₁ o₁ : ℕ) (γ₁ : GName) (ps : List ℕ) (start : Pass)
     (room : Room L.the-row (length ys)) (room₁ : Room u32 (length ps)) (start-is : Is S.the-row start (pass-val start ∷ [])) where
@@ -200,11 +210,11 @@ module _ {M : Type 1} (𝓤 : URA M) (H : Heap 𝓤) (A : Atoms 𝓤) (W : Given
   goes-place p = qed W (‵ (u32 .own p (vint w32 p ∷ [])) ∷ ‵ (usize .own n (vint w64 n ∷ [])) ∷ []) ∵ nothing ! $ move ! (2 ∷ 0 ∷ []) $ join ! $ move ! (1 ∷ 0 ∷ []) $ join ! $ nothing ! $ join ! $ frame ! $ done !
 
   abbrev to-step : Pass → ℕ → Line → Steps 𝓤 H A at-mem run .Ghost
-  to-step s p h = ((tt, tt, tt, (s, (n, (p, (h .spacing, (h .state, tt))))), (pass-val s ∷ [], (vint w64 n ∷ [], (vint w32 p ∷ [], (vint w32 (h .spacing) ∷ [], (state-val (h .state) ∷ [], tt)))))), tt)
+  to-step s p h = ((tt, tt, tt, (s, (n, (p, (h .spacing, (h .serial, (h .state, tt)))))), (pass-val s ∷ [], (vint w64 n ∷ [], (vint w32 p ∷ [], (vint w32 (h .spacing) ∷ [], (vint w32 (h .serial) ∷ [], (state-val (h .state) ∷ [], tt))))))), tt)
 
-  goes-step : (s : Pass) (p : ℕ) (h : Line) → ent 𝓤 (sep 𝓤 (sem 𝓤 H A (S.the-row .own s (pass-val s ∷ []))) (sep 𝓤 (sem 𝓤 H A (usize .own n (vint w64 n ∷ []))) (sep 𝓤 (sem 𝓤 H A (u32 .own p (vint w32 p ∷ []))) (sep 𝓤 (sem 𝓤 H A (u32 .own (h .spacing) (vint w32 (h .spacing) ∷ []))) (sem 𝓤 H A (T.the-row .own (h .state) (state-val (h .state) ∷ []))))))) (Steps 𝓤 H A at-mem run .pre (to-step s p h))
-  goes-step s p h = qed W (‵ (S.the-row .own s (pass-val s ∷ [])) ∷ ‵ (usize .own n (vint w64 n ∷ [])) ∷ ‵ (u32 .own p (vint w32 p ∷ [])) ∷ ‵ (u32 .own (h .spacing) (vint w32 (h .spacing) ∷ [])) ∷ ‵ (T.the-row .own (h .state) (state-val (h .state) ∷ [])) ∷ []) ∵
-      nothing ! $ move ! (5 ∷ 0 ∷ []) $ join ! $ move ! (4 ∷ 0 ∷ []) $ join ! $ move ! (3 ∷ 0 ∷ []) $ join ! $ move ! (2 ∷ 0 ∷ []) $ join ! $ move ! (1 ∷ 0 ∷ []) $ join ! $ nothing ! $ join ! $ frame ! $ done !
+  goes-step : (s : Pass) (p : ℕ) (h : Line) → ent 𝓤 (sep 𝓤 (sem 𝓤 H A (S.the-row .own s (pass-val s ∷ []))) (sep 𝓤 (sem 𝓤 H A (usize .own n (vint w64 n ∷ []))) (sep 𝓤 (sem 𝓤 H A (u32 .own p (vint w32 p ∷ []))) (sep 𝓤 (sem 𝓤 H A (u32 .own (h .spacing) (vint w32 (h .spacing) ∷ []))) (sep 𝓤 (sem 𝓤 H A (u32 .own (h .serial) (vint w32 (h .serial) ∷ []))) (sem 𝓤 H A (T.the-row .own (h .state) (state-val (h .state) ∷ [])))))))) (Steps 𝓤 H A at-mem run .pre (to-step s p h))
+  goes-step s p h = qed W (‵ (S.the-row .own s (pass-val s ∷ [])) ∷ ‵ (usize .own n (vint w64 n ∷ [])) ∷ ‵ (u32 .own p (vint w32 p ∷ [])) ∷ ‵ (u32 .own (h .spacing) (vint w32 (h .spacing) ∷ [])) ∷ ‵ (u32 .own (h .serial) (vint w32 (h .serial) ∷ [])) ∷ ‵ (T.the-row .own (h .state) (state-val (h .state) ∷ [])) ∷ []) ∵
+      nothing ! $ move ! (6 ∷ 0 ∷ []) $ join ! $ move ! (5 ∷ 0 ∷ []) $ join ! $ move ! (4 ∷ 0 ∷ []) $ join ! $ move ! (3 ∷ 0 ∷ []) $ join ! $ move ! (2 ∷ 0 ∷ []) $ join ! $ move ! (1 ∷ 0 ∷ []) $ join ! $ nothing ! $ join ! $ frame ! $ done !
 
   abbrev Nearer : Turn start ys ps → Turn start ys ps → Type 0
   Nearer u t = m - u .i < m - t .i
@@ -212,7 +222,7 @@ module _ {M : Type 1} (𝓤 : URA M) (H : Heap 𝓤) (A : Atoms 𝓤) (W : Given
   Nearer-wf : WellFounded Nearer
   Nearer-wf = InvImage·wf (λ (t : Turn start ys ps). m - t .i) (Nat·lt-wfRel .wf)
 
-  module _ (𝓣 : Tables 𝓤 H) (fm : FmC 𝓤 H (W .laws) (𝓣 .C)) (knows-place : Triple 𝓤 (𝓣 .C #place-in) (Places 𝓤 H A at-mem run)) (knows-step : Triple 𝓤 (𝓣 .C #step) (Steps 𝓤 H A at-mem run)) (q′ : Share) (l₀ l₁ l₂ l₃ l₄ l₅ l₆ l₇ l₈ l₉ l₁₀ l₁₁ l₁₂ l₁₃ l₁₄ l₁₅ l₁₆ l₁₇ l₁₈ : ℕ) where
+  module _ (𝓣 : Tables 𝓤 H) (fm : FmC 𝓤 H (W .laws) (𝓣 .C)) (knows-place : Triple 𝓤 (𝓣 .C #place-in) (Places 𝓤 H A at-mem run)) (knows-step : Triple 𝓤 (𝓣 .C #step) (Steps 𝓤 H A at-mem run)) (q′ : Share) (l₀ l₁ l₂ l₃ l₄ l₅ l₆ l₇ l₈ l₉ l₁₀ l₁₁ l₁₂ l₁₃ l₁₄ l₁₅ l₁₆ l₁₇ l₁₈ l₁₉ l₂₀ l₂₁ l₂₂ : ℕ) where
     abbrev C : Calls 𝓤 H
     C = 𝓣 .C
 
@@ -226,13 +236,14 @@ module _ {M : Type 1} (𝓤 : URA M) (H : Heap 𝓤) (A : Atoms 𝓤) (W : Given
     listed = sliceTy (tyRef (named 1) imm (tyInt w32))
 
     abbrev En : Env 𝓤 H
-    En = (S′.mir, l₀) ∷ (slice, l₁) ∷ (listed, l₂) ∷ (S′.mir, l₃) ∷ (S′.mir, l₄) ∷ (tyInt w64, l₅) ∷ (tyInt w32, l₆) ∷ (tyInt w64, l₇) ∷ (D′.mir, l₈) ∷ (tyBool, l₉) ∷ (tyInt w64, l₁₀) ∷ (tyPtr, l₁₁) ∷ (tyInt w32, l₁₂) ∷ (tyInt w64, l₁₃) ∷ (tyPtr, l₁₄) ∷ (tyInt w64, l₁₅) ∷ (tyPtr, l₁₆) ∷ (T′.mir, l₁₇) ∷ (tyPtr, l₁₈) ∷ []
+    En = (S′.mir, l₀) ∷ (slice, l₁) ∷ (listed, l₂) ∷ (S′.mir, l₃) ∷ (S′.mir, l₄) ∷ (tyInt w64, l₅) ∷ (tyInt w32, l₆) ∷ (tyInt w64, l₇) ∷ (D′.mir, l₈) ∷ (tyBool, l₉) ∷ (tyInt w64, l₁₀) ∷ (tyPtr, l₁₁) ∷ (tyInt w32, l₁₂) ∷ (tyInt w64, l₁₃) ∷ (tyPtr, l₁₄) ∷ (tyInt w64, l₁₅) ∷ (tyPtr, l₁₆) ∷ (tyInt w32, l₁₇) ∷ (tyInt w64, l₁₈) ∷ (tyPtr, l₁₉) ∷ (T′.mir, l₂₀) ∷ (tyPtr, l₂₁) ∷ (tyPtr, l₂₂) ∷ []
 
-    -- the invariant: [0 the places; what shuts them; 2 the row; the open borrow; obs; auth; 6 _18; …; local i at 42 - 2 i; …; 42 _0; …; 44 the reference kept]
+    -- the invariant: [0 the places; what shuts them; 2 the row; the open borrow; obs; auth; 6 _22; …; local i at 50 - 2 i; …; 50 _0; …; 52 the reference kept]
     abbrev At : Turn start ys ps → List (Item 𝓤)
     At t = ‵ (row u32 q′ ps b₁ o₁) ∷ ‵ (fobor κ₁ q₁ (arr-parts (shares u32) m .part q′ ps b₁ o₁)) ∷ ‵ (row L.the-row fullShare (t .cur) b o) ∷ ‵ (fobor κ q (Held L.the-row n b o γ))
         ∷ ‵ (fobs γ (codedHoleys L.the-row .code (heres L.the-row ys))) ∷ ‵ (fauth γ (codedHoleys L.the-row .code (heres L.the-row ys)))
-        ∷ ‵ (froom tyPtr l₁₈ 0) ∷ ‵ (fdies tyPtr l₁₈) ∷ ‵ (froom T′.mir l₁₇ 0) ∷ ‵ (fdies T′.mir l₁₇) ∷ ‵ (froom tyPtr l₁₆ 0) ∷ ‵ (fdies tyPtr l₁₆) ∷ ‵ (froom (tyInt w64) l₁₅ 0) ∷ ‵ (fdies (tyInt w64) l₁₅) ∷ ‵ (froom tyPtr l₁₄ 0) ∷ ‵ (fdies tyPtr l₁₄)
+        ∷ ‵ (froom tyPtr l₂₂ 0) ∷ ‵ (fdies tyPtr l₂₂) ∷ ‵ (froom tyPtr l₂₁ 0) ∷ ‵ (fdies tyPtr l₂₁) ∷ ‵ (froom T′.mir l₂₀ 0) ∷ ‵ (fdies T′.mir l₂₀) ∷ ‵ (froom tyPtr l₁₉ 0) ∷ ‵ (fdies tyPtr l₁₉) ∷ ‵ (froom (tyInt w64) l₁₈ 0) ∷ ‵ (fdies (tyInt w64) l₁₈) ∷ ‵ (froom (tyInt w32) l₁₇ 0) ∷ ‵ (fdies (tyInt w32) l₁₇)
+        ∷ ‵ (froom tyPtr l₁₆ 0) ∷ ‵ (fdies tyPtr l₁₆) ∷ ‵ (froom (tyInt w64) l₁₅ 0) ∷ ‵ (fdies (tyInt w64) l₁₅) ∷ ‵ (froom tyPtr l₁₄ 0) ∷ ‵ (fdies tyPtr l₁₄)
         ∷ ‵ (froom (tyInt w64) l₁₃ 0) ∷ ‵ (fdies (tyInt w64) l₁₃) ∷ ‵ (froom (tyInt w32) l₁₂ 0) ∷ ‵ (fdies (tyInt w32) l₁₂) ∷ ‵ (froom tyPtr l₁₁ 0) ∷ ‵ (fdies tyPtr l₁₁) ∷ ‵ (froom (tyInt w64) l₁₀ 0) ∷ ‵ (fdies (tyInt w64) l₁₀) ∷ ‵ (froom tyBool l₉ 0) ∷ ‵ (fdies tyBool l₉)
         ∷ ‵ (froom D′.mir l₈ 0) ∷ ‵ (fdies D′.mir l₈) ∷ ‵ (froom (tyInt w64) l₇ 0) ∷ ‵ (fdies (tyInt w64) l₇) ∷ ‵ (froom (tyInt w32) l₆ 0) ∷ ‵ (fdies (tyInt w32) l₆) ∷ ‵ (fat fullShare (tyInt w64) l₅ 0 (vint w64 (t .i))) ∷ ‵ (fdies (tyInt w64) l₅) ∷ ‵ (fat fullShare S′.mir l₄ 0 (pass-val (t .s))) ∷ ‵ (fdies S′.mir l₄)
         ∷ ‵ (fat fullShare S′.mir l₃ 0 (pass-val start)) ∷ ‵ (fdies S′.mir l₃) ∷ ‵ (fat fullShare listed l₂ 0 pl) ∷ ‵ (fdies listed l₂) ∷ ‵ (fat fullShare slice l₁ 0 sl) ∷ ‵ (fdies slice l₁) ∷ ‵ (froom S′.mir l₀ 0) ∷ ‵ (fdies S′.mir l₀) ∷ kept ∷ []
@@ -245,51 +256,60 @@ module _ {M : Type 1} (𝓤 : URA M) (H : Heap 𝓤) (A : Atoms 𝓤) (W : Given
     more : (t : Turn start ys ps) → T (ltb (t .i) (t .s .limit)) → Sq W (At t) (runs C Λ En mir′.turn-1 (anyQ (Turned t)))
     unfolding afterTurn
     more t less =
-        assigns ! (bin ! (load ! (from ! (stop !)) (look ! 32 refl)) (load ! (from ! (fld ! refl (stop !))) (look-in ! 34 (sub ! 1 refl (whole !)))) tt) (from ! (stop !)) (init ! 24 refl (tt, tt)) $
-        rewrite ! 24 (λ (z : Bool). ‵ (fat fullShare tyBool l₉ 0 (vbool z))) (holds (ltb (t .i) (t .s .limit)) less) refl $ stays ! (load ! (from ! (stop !)) (look ! 24 refl)) $
+        assigns ! (bin ! (load ! (from ! (stop !)) (look ! 40 refl)) (load ! (from ! (fld ! refl (stop !))) (look-in ! 42 (sub ! 1 refl (whole !)))) tt) (from ! (stop !)) (init ! 32 refl (tt, tt)) $
+        rewrite ! 32 (λ (z : Bool). ‵ (fat fullShare tyBool l₉ 0 (vbool z))) (holds (ltb (t .i) (t .s .limit)) less) refl $ stays ! (load ! (from ! (stop !)) (look ! 32 refl)) $
         -- place i of the list is read: while it is out, what was at j is at j + 2
-        assigns ! (bin ! (load ! (from ! (stop !)) (look ! 32 refl)) (lit ! tt) (record { fits = there })) (from ! (stop !)) (init ! 22 refl (tt, record { fits = there })) $
-        assigns ! (bin ! (load ! (from ! (fld ! refl (stop !))) (look-in ! 38 (sub ! 0 refl (whole !)))) (load ! (from ! (stop !)) (look ! 22 refl)) tt) (from ! (stop !)) (init ! 20 refl (tt, tt)) $
-        rewrite ! 20 (λ (z : ℕ). ‵ (fat fullShare tyPtr l₁₁ 0 (vptr b₁ z))) (sym (place-is 4 o₁ (t .i))) refl $
+        assigns ! (bin ! (load ! (from ! (stop !)) (look ! 40 refl)) (lit ! tt) (record { fits = there })) (from ! (stop !)) (init ! 30 refl (tt, record { fits = there })) $
+        assigns ! (bin ! (load ! (from ! (fld ! refl (stop !))) (look-in ! 46 (sub ! 0 refl (whole !)))) (load ! (from ! (stop !)) (look ! 30 refl)) tt) (from ! (stop !)) (init ! 28 refl (tt, tt)) $
+        rewrite ! 28 (λ (z : ℕ). ‵ (fat fullShare tyPtr l₁₁ 0 (vptr b₁ z))) (sym (place-is 4 o₁ (t .i))) refl $
         elem-out ! u32 (Is u32) (shows 𝓤 H A u32) (uint-vals w32) (uint-tells w32) q′ ps (t .i) 0 b₁ o₁ small (λ p-is.
-        assigns ! (of-opd ! (load ! (from ! (hop ! (look ! 22 refl) (stop !))) (look-raw ! 0 refl))) (from ! (stop !)) (init ! 20 refl (tt, record { fits = p-is .1 })) $
+        assigns ! (of-opd ! (load ! (from ! (hop ! (look ! 30 refl) (stop !))) (look-raw ! 0 refl))) (from ! (stop !)) (init ! 28 refl (tt, record { fits = p-is .1 })) $
         elem-back ! u32 q′ ps (t .i) 0 (vint w32 p ∷ []) b₁ o₁ small $
-        assigns ! (of-opd ! (load ! (from ! (stop !)) (look ! 18 refl))) (from ! (stop !)) (init ! 30 refl (tt, record { fits = p-is .1 })) $
+        assigns ! (of-opd ! (load ! (from ! (stop !)) (look ! 26 refl))) (from ! (stop !)) (init ! 38 refl (tt, record { fits = p-is .1 })) $
         -- the place in the row
-        assigns ! (of-opd ! (load ! (from ! (fld ! refl (stop !))) (look-in ! 40 (sub ! 1 refl (whole !))))) (from ! (stop !)) (store ! 22 refl (tt, record { fits = room .0 })) $
+        assigns ! (of-opd ! (load ! (from ! (fld ! refl (stop !))) (look-in ! 48 (sub ! 1 refl (whole !))))) (from ! (stop !)) (store ! 30 refl (tt, record { fits = room .0 })) $
         owned ! usize (Is usize) (uint-makes 𝓤 H A W w64) n _ (refl, room .0) $ owned ! u32 (Is u32) (uint-makes 𝓤 H A W w32) p _ (refl, p-is .1) $ use2 W (raw (Places 𝓤 H A at-mem run .pre (to-place p))) (goes-place p) $
-        calls-at ! fm (Places 𝓤 H A at-mem run) knows-place (to-place p) (and-then ! (load ! (from ! (stop !)) (look ! 31 refl)) (and-then ! (load ! (from ! (stop !)) (look ! 23 refl)) (no-more !))) (λ v.
+        calls-at ! fm (Places 𝓤 H A at-mem run) knows-place (to-place p) (and-then ! (load ! (from ! (stop !)) (look ! 39 refl)) (and-then ! (load ! (from ! (stop !)) (look ! 31 refl)) (no-more !))) (λ v.
         use1 W (later (given (ToldInt k v) (‵ ftrue))) (answers-int 𝓤 H A W k v (place-says 𝓤 H A at-mem run p n) (place-has 𝓤 H A at-mem run p n)) $ await ! tt $ learn ! (λ c. drop ! $
-        land ! (from ! (stop !)) (init ! 28 refl (subst (λ (z : Val). T (hasTy (tyInt w64) z) × WT z) (sym (c .0)) (tt, record { fits = c .1 }))) $ rewrite ! 28 (λ (u : Val). ‵ (fat fullShare (tyInt w64) l₇ 0 u)) (c .0) refl $
-        assigns ! (of-opd ! (load ! (from ! (fld ! refl (stop !))) (look-in ! 40 (sub ! 1 refl (whole !))))) (from ! (stop !)) (store ! 22 refl (tt, record { fits = room .0 })) $
-        assigns ! (bin ! (load ! (from ! (stop !)) (look ! 28 refl)) (lit ! tt) (record { fits = here })) (from ! (stop !)) (init ! 16 refl (tt, record { fits = here })) $
-        assigns ! (bin ! (load ! (from ! (fld ! refl (stop !))) (look-in ! 40 (sub ! 0 refl (whole !)))) (load ! (from ! (stop !)) (look ! 16 refl)) tt) (from ! (stop !)) (init ! 14 refl (tt, tt)) $
-        rewrite ! 14 (λ (z : ℕ). ‵ (fat fullShare tyPtr l₁₄ 0 (vptr b z))) (sym (place-is 304 o k)) refl $
-        -- the line there is taken out of the row: [0 its cell; what it owns; the others; the places; what shuts them; the open borrow; obs; auth; 8 _18; …; local i at 44 - 2 i; …]
+        land ! (from ! (stop !)) (init ! 36 refl (subst (λ (z : Val). T (hasTy (tyInt w64) z) × WT z) (sym (c .0)) (tt, record { fits = c .1 }))) $ rewrite ! 36 (λ (u : Val). ‵ (fat fullShare (tyInt w64) l₇ 0 u)) (c .0) refl $
+        assigns ! (of-opd ! (load ! (from ! (fld ! refl (stop !))) (look-in ! 48 (sub ! 1 refl (whole !))))) (from ! (stop !)) (store ! 30 refl (tt, record { fits = room .0 })) $
+        assigns ! (bin ! (load ! (from ! (stop !)) (look ! 36 refl)) (lit ! tt) (record { fits = here })) (from ! (stop !)) (init ! 24 refl (tt, record { fits = here })) $
+        assigns ! (bin ! (load ! (from ! (fld ! refl (stop !))) (look-in ! 48 (sub ! 0 refl (whole !)))) (load ! (from ! (stop !)) (look ! 24 refl)) tt) (from ! (stop !)) (init ! 22 refl (tt, tt)) $
+        rewrite ! 22 (λ (z : ℕ). ‵ (fat fullShare tyPtr l₁₄ 0 (vptr b z))) (sym (place-is 304 o k)) refl $
+        -- the line there is taken out of the row: [0 its cell; what it owns; the others; the places; what shuts them; the open borrow; obs; auth; 8 _22; …; local i at 52 - 2 i; …]
         move ! (2 ∷ []) $ elem-out ! L.the-row (Is L.the-row) (shows 𝓤 H A L.the-row) (LL.vals L.the-type L′.the-laws) (LL.tells L.the-type L′.the-laws) fullShare (t .cur) k blankLine b o inside (λ was.
         use1 W (‵ (fat fullShare L′.mir b spot (line-val h))) (W .laws .raw-at fullShare L′.mir b spot (line-val h)) $
-        assigns ! (of-opd ! (load ! (from ! (hop ! (look ! 16 refl) (fld ! refl (stop !)))) (look-in ! 0 (sub ! 1 refl (whole !))))) (from ! (stop !)) (store ! 20 refl (tt, record { fits = spacing-fits h was })) $
-        assigns ! (bin ! (load ! (from ! (stop !)) (look ! 30 refl)) (lit ! tt) (record { fits = here })) (from ! (stop !)) (init ! 14 refl (tt, record { fits = here })) $
-        assigns ! (bin ! (load ! (from ! (fld ! refl (stop !))) (look-in ! 42 (sub ! 0 refl (whole !)))) (load ! (from ! (stop !)) (look ! 14 refl)) tt) (from ! (stop !)) (init ! 12 refl (tt, tt)) $
-        rewrite ! 12 (λ (z : ℕ). ‵ (fat fullShare tyPtr l₁₆ 0 (vptr b z))) (sym (place-is 304 o k)) refl $
-        assigns ! (of-opd ! (load ! (from ! (hop ! (look ! 12 refl) (fld ! refl (stop !)))) (look-in ! 0 (sub ! 3 refl (whole !))))) (from ! (stop !)) (init ! 10 refl (LL.lawful T.the-type T′.the-laws 𝓤 H A W .typed (h .state) _ (state-of h was) .0)) $
-        owned ! T.the-row (Is T.the-row) (LL.makes T.the-type T′.the-plain 𝓤 H A) (h .state) (state-val (h .state) ∷ []) (state-of h was) $ owned ! u32 (Is u32) (uint-makes 𝓤 H A W w32) (h .spacing) _ (refl, spacing-fits h was) $ join ! $
+        assigns ! (of-opd ! (load ! (from ! (hop ! (look ! 24 refl) (fld ! refl (stop !)))) (look-in ! 0 (sub ! 1 refl (whole !))))) (from ! (stop !)) (store ! 28 refl (tt, record { fits = spacing-fits h was })) $
+        assigns ! (bin ! (load ! (from ! (stop !)) (look ! 38 refl)) (lit ! tt) (record { fits = here })) (from ! (stop !)) (init ! 22 refl (tt, record { fits = here })) $
+        assigns ! (bin ! (load ! (from ! (fld ! refl (stop !))) (look-in ! 50 (sub ! 0 refl (whole !)))) (load ! (from ! (stop !)) (look ! 22 refl)) tt) (from ! (stop !)) (init ! 20 refl (tt, tt)) $
+        rewrite ! 20 (λ (z : ℕ). ‵ (fat fullShare tyPtr l₁₆ 0 (vptr b z))) (sym (place-is 304 o k)) refl $
+        assigns ! (of-opd ! (load ! (from ! (hop ! (look ! 20 refl) (fld ! refl (stop !)))) (look-in ! 0 (sub ! 3 refl (whole !))))) (from ! (stop !)) (init ! 18 refl (tt, record { fits = serial-fits h was })) $
+        assigns ! (bin ! (load ! (from ! (stop !)) (look ! 38 refl)) (lit ! tt) (record { fits = here })) (from ! (stop !)) (init ! 16 refl (tt, record { fits = here })) $
+        assigns ! (bin ! (load ! (from ! (fld ! refl (stop !))) (look-in ! 50 (sub ! 0 refl (whole !)))) (load ! (from ! (stop !)) (look ! 16 refl)) tt) (from ! (stop !)) (init ! 14 refl (tt, tt)) $
+        rewrite ! 14 (λ (z : ℕ). ‵ (fat fullShare tyPtr l₁₉ 0 (vptr b z))) (sym (place-is 304 o k)) refl $
+        assigns ! (of-opd ! (load ! (from ! (hop ! (look ! 14 refl) (fld ! refl (stop !)))) (look-in ! 0 (sub ! 4 refl (whole !))))) (from ! (stop !)) (init ! 12 refl (LL.lawful T.the-type T′.the-laws 𝓤 H A W .typed (h .state) _ (state-of h was) .0)) $
+        owned ! T.the-row (Is T.the-row) (LL.makes T.the-type T′.the-plain 𝓤 H A) (h .state) (state-val (h .state) ∷ []) (state-of h was) $ owned ! u32 (Is u32) (uint-makes 𝓤 H A W w32) (h .serial) _ (refl, serial-fits h was) $ join ! $
+        owned ! u32 (Is u32) (uint-makes 𝓤 H A W w32) (h .spacing) _ (refl, spacing-fits h was) $ join ! $
         owned ! u32 (Is u32) (uint-makes 𝓤 H A W w32) p _ (refl, p-is .1) $ join ! $ owned ! usize (Is usize) (uint-makes 𝓤 H A W w64) n _ (refl, room .0) $ join ! $
         owned ! S.the-row (Is S.the-row) (LL.makes S.the-type S′.the-plain 𝓤 H A) (t .s) (pass-val (t .s) ∷ []) (t .is) $ use2 W (raw (Steps 𝓤 H A at-mem run .pre (to-step (t .s) p h))) (goes-step (t .s) p h) $
-        calls-at ! fm (Steps 𝓤 H A at-mem run) knows-step (to-step (t .s) p h) (and-then ! (load ! (from ! (stop !)) (look ! 37 refl)) (and-then ! (load ! (from ! (stop !)) (look ! 25 refl)) (and-then ! (load ! (from ! (stop !)) (look ! 33 refl)) (and-then ! (load ! (from ! (stop !)) (look ! 21 refl)) (and-then ! (load ! (from ! (stop !)) (look ! 11 refl)) (no-more !)))))) (λ w.
+        calls-at ! fm (Steps 𝓤 H A at-mem run) knows-step (to-step (t .s) p h) (and-then ! (load ! (from ! (stop !)) (look ! 45 refl)) (and-then ! (load ! (from ! (stop !)) (look ! 33 refl)) (and-then ! (load ! (from ! (stop !)) (look ! 41 refl)) (and-then ! (load ! (from ! (stop !)) (look ! 29 refl)) (and-then ! (load ! (from ! (stop !)) (look ! 19 refl)) (and-then ! (load ! (from ! (stop !)) (look ! 13 refl)) (no-more !))))))) (λ w.
         use1 W (later (given (Told D.the-type D′.the-laws r w) (‵ ftrue))) (answers 𝓤 H A W D.the-type D′.the-laws r w (step-says 𝓤 H A at-mem run (t .s) n p h) (step-is 𝓤 H A at-mem run (t .s) n p h)) $ await ! tt $ learn ! (λ j. drop ! $
-        land ! (from ! (stop !)) (init ! 28 refl (LL.lawful D.the-type D′.the-laws 𝓤 H A W .typed r _ (j .1 .0) .0)) $ rewrite ! 28 (λ (u : Val). ‵ (fat fullShare D′.mir l₈ 0 u)) (j .0) refl $
-        -- the place again; the state of the answer is stored there, and the pass kept
-        assigns ! (bin ! (load ! (from ! (stop !)) (look ! 30 refl)) (lit ! tt) (record { fits = here })) (from ! (stop !)) (store ! 24 refl (tt, record { fits = here })) $
-        assigns ! (bin ! (load ! (from ! (fld ! refl (stop !))) (look-in ! 42 (sub ! 0 refl (whole !)))) (load ! (from ! (stop !)) (look ! 24 refl)) tt) (from ! (stop !)) (init ! 8 refl (tt, tt)) $
-        rewrite ! 8 (λ (z : ℕ). ‵ (fat fullShare tyPtr l₁₈ 0 (vptr b z))) (sym (place-is 304 o k)) refl $
-        assigns ! (of-opd ! (load ! (from ! (fld ! refl (stop !))) (look-in ! 28 (sub ! 1 refl (whole !))))) (from ! (hop ! (look ! 8 refl) (fld ! refl (stop !)))) (store-in ! 0 (sub ! 3 refl (whole !)) (LL.lawful T.the-type T′.the-laws 𝓤 H A W .typed (r .state) _ (state-in r (j .1 .1)) .0)) $
-        assigns ! (of-opd ! (load ! (from ! (fld ! refl (stop !))) (look-in ! 28 (sub ! 0 refl (whole !))))) (from ! (stop !)) (store ! 36 refl (LL.lawful S.the-type S′.the-laws 𝓤 H A W .typed (r .pass) _ (pass-of r (j .1 .1)) .0)) $
-        assigns-last ! (bin ! (load ! (from ! (stop !)) (look ! 34 refl)) (lit ! tt) (record { fits = after })) (from ! (stop !)) (store ! 34 refl (tt, record { fits = after })) $
-        use1 W (‵ (cellAt fullShare (L.the-row .mir) (line-val (withState h (r .state)) ∷ []) b spot)) (W .laws .at-raw fullShare L′.mir b spot (line-val (withState h (r .state)))) $
-        move ! (1 ∷ []) $ drop ! $ owned ! L.the-row (Is L.the-row) (LL.makes L.the-type L′.the-plain 𝓤 H A) (withState h (r .state)) _ (with-state-is h (r .state) was (state-in r (j .1 .1))) $ move ! (1 ∷ 0 ∷ []) $
-        elem-put ! L.the-row fullShare (t .cur) k (withState h (r .state)) (line-val (withState h (r .state)) ∷ []) b o inside $ move ! (1 ∷ 2 ∷ 0 ∷ []) $
-        forget ! 6 refl $ forget ! 8 refl $ forget ! 10 refl $ forget ! 12 refl $ forget ! 14 refl $ forget ! 16 refl $ forget ! 18 refl $ forget ! 20 refl $ forget ! 22 refl $ forget ! 24 refl $ forget ! 26 refl $ forget ! 28 refl $ forget ! 30 refl $
+        land ! (from ! (stop !)) (init ! 36 refl (LL.lawful D.the-type D′.the-laws 𝓤 H A W .typed r _ (j .1 .0) .0)) $ rewrite ! 36 (λ (u : Val). ‵ (fat fullShare D′.mir l₈ 0 u)) (j .0) refl $
+        -- the place again, twice; the serial and the state of the answer are stored there, and the pass kept
+        assigns ! (bin ! (load ! (from ! (stop !)) (look ! 38 refl)) (lit ! tt) (record { fits = here })) (from ! (stop !)) (store ! 32 refl (tt, record { fits = here })) $
+        assigns ! (bin ! (load ! (from ! (fld ! refl (stop !))) (look-in ! 50 (sub ! 0 refl (whole !)))) (load ! (from ! (stop !)) (look ! 32 refl)) tt) (from ! (stop !)) (init ! 10 refl (tt, tt)) $
+        rewrite ! 10 (λ (z : ℕ). ‵ (fat fullShare tyPtr l₂₁ 0 (vptr b z))) (sym (place-is 304 o k)) refl $
+        assigns ! (of-opd ! (load ! (from ! (fld ! refl (stop !))) (look-in ! 36 (sub ! 1 refl (whole !))))) (from ! (hop ! (look ! 10 refl) (fld ! refl (stop !)))) (store-in ! 0 (sub ! 3 refl (whole !)) (tt, record { fits = serial-in r (j .1 .1) })) $
+        assigns ! (bin ! (load ! (from ! (stop !)) (look ! 38 refl)) (lit ! tt) (record { fits = here })) (from ! (stop !)) (store ! 26 refl (tt, record { fits = here })) $
+        assigns ! (bin ! (load ! (from ! (fld ! refl (stop !))) (look-in ! 50 (sub ! 0 refl (whole !)))) (load ! (from ! (stop !)) (look ! 26 refl)) tt) (from ! (stop !)) (init ! 8 refl (tt, tt)) $
+        rewrite ! 8 (λ (z : ℕ). ‵ (fat fullShare tyPtr l₂₂ 0 (vptr b z))) (sym (place-is 304 o k)) refl $
+        assigns ! (of-opd ! (load ! (from ! (fld ! refl (stop !))) (look-in ! 36 (sub ! 2 refl (whole !))))) (from ! (hop ! (look ! 8 refl) (fld ! refl (stop !)))) (store-in ! 0 (sub ! 4 refl (whole !)) (LL.lawful T.the-type T′.the-laws 𝓤 H A W .typed (r .state) _ (state-in r (j .1 .1)) .0)) $
+        assigns ! (of-opd ! (load ! (from ! (fld ! refl (stop !))) (look-in ! 36 (sub ! 0 refl (whole !))))) (from ! (stop !)) (store ! 44 refl (LL.lawful S.the-type S′.the-laws 𝓤 H A W .typed (r .pass) _ (pass-of r (j .1 .1)) .0)) $
+        assigns-last ! (bin ! (load ! (from ! (stop !)) (look ! 42 refl)) (lit ! tt) (record { fits = after })) (from ! (stop !)) (store ! 42 refl (tt, record { fits = after })) $
+        use1 W (‵ (cellAt fullShare (L.the-row .mir) (line-val (withPassed h r) ∷ []) b spot)) (W .laws .at-raw fullShare L′.mir b spot (line-val (withPassed h r))) $
+        move ! (1 ∷ []) $ drop ! $ owned ! L.the-row (Is L.the-row) (LL.makes L.the-type L′.the-plain 𝓤 H A) (withPassed h r) _ (with-passed-is h r was (j .1 .1)) $ move ! (1 ∷ 0 ∷ []) $
+        elem-put ! L.the-row fullShare (t .cur) k (withPassed h r) (line-val (withPassed h r) ∷ []) b o inside $ move ! (1 ∷ 2 ∷ 0 ∷ []) $
+        forget ! 6 refl $ forget ! 8 refl $ forget ! 10 refl $ forget ! 12 refl $ forget ! 14 refl $ forget ! 16 refl $ forget ! 18 refl $ forget ! 20 refl $ forget ! 22 refl $ forget ! 24 refl $ forget ! 26 refl $ forget ! 28 refl $ forget ! 30 refl $ forget ! 32 refl $ forget ! 34 refl $ forget ! 36 refl $ forget ! 38 refl $
         again ! Nearer At t (next (j .1 .1)) (add-one-dec m (t .i) small)))))))
       where
         some : (t .i < m) × (0 < n)
@@ -326,16 +346,16 @@ module _ {M : Type 1} (𝓤 : URA M) (H : Heap 𝓤) (A : Atoms 𝓤) (W : Given
         h = lineAt (t .cur) k
 
         r : Passed
-        r = stepOf (t .s) n p (h .spacing) (h .state)
+        r = stepOf (t .s) n p (h .spacing) (h .serial) (h .state)
 
-        next : Is D.the-row r (LL.val D.the-type D′.the-laws r ∷ []) → Turn start ys ps
+        next : IsPassed r → Turn start ys ps
         next is = record {
           i = t .i + 1;
           cur = rowAt n (t .s) (t .cur) p;
           s = r .pass;
           within = add-one-le small;
           same = row-at-length n (t .s) (t .cur) p ∙ t .same;
-          lim = step-open (t .s) n p (h .spacing) (h .state) m (t .lim);
+          lim = step-open (t .s) n p (h .spacing) (h .serial) (h .state) m (t .lim);
           ends = ap (λ (j : ℕ). endFrom n j (r .pass) (rowAt n (t .s) (t .cur) p) ps) (add-one (t .i)) ∙ end-turn n (t .i) (t .s) (t .cur) ps small positive ∙ t .ends;
           rows = ap (λ (j : ℕ). rowFrom n j (r .pass) (rowAt n (t .s) (t .cur) p) ps) (add-one (t .i)) ∙ row-turn n (t .i) (t .s) (t .cur) ps small positive ∙ t .rows;
           is = pass-of r is;
@@ -345,14 +365,15 @@ module _ {M : Type 1} (𝓤 : URA M) (H : Heap 𝓤) (A : Atoms 𝓤) (W : Given
     over : (t : Turn start ys ps) → T (not (ltb (t .i) (t .s .limit))) → Sq W (At t) (runs C Λ En mir′.turn-1 (anyQ (Turned t)))
     unfolding afterTurn
     over t past =
-        assigns ! (bin ! (load ! (from ! (stop !)) (look ! 32 refl)) (load ! (from ! (fld ! refl (stop !))) (look-in ! 34 (sub ! 1 refl (whole !)))) tt) (from ! (stop !)) (init ! 24 refl (tt, tt)) $
-        rewrite ! 24 (λ (z : Bool). ‵ (fat fullShare tyBool l₉ 0 (vbool z))) (fails (ltb (t .i) (t .s .limit)) past) refl $ leaves-loop ! (load ! (from ! (stop !)) (look ! 24 refl)) $ exec ! C Λ En mir′.t-4 (atRet En Post) $
-        assigns ! (of-opd ! (load ! (from ! (stop !)) (look ! 34 refl))) (from ! (stop !)) (init ! 42 refl (LL.lawful S.the-type S′.the-laws 𝓤 H A W .typed (t .s) _ (t .is) .0)) $
+        assigns ! (bin ! (load ! (from ! (stop !)) (look ! 40 refl)) (load ! (from ! (fld ! refl (stop !))) (look-in ! 42 (sub ! 1 refl (whole !)))) tt) (from ! (stop !)) (init ! 32 refl (tt, tt)) $
+        rewrite ! 32 (λ (z : Bool). ‵ (fat fullShare tyBool l₉ 0 (vbool z))) (fails (ltb (t .i) (t .s .limit)) past) refl $ leaves-loop ! (load ! (from ! (stop !)) (look ! 32 refl)) $ exec ! C Λ En mir′.t-4 (atRet En Post) $
+        assigns ! (of-opd ! (load ! (from ! (stop !)) (look ! 42 refl))) (from ! (stop !)) (init ! 50 refl (LL.lawful S.the-type S′.the-laws 𝓤 H A W .typed (t .s) _ (t .is) .0)) $
         shuts-slice ! tt u32 q′ ps b₁ o₁ $ move ! (1 ∷ 2 ∷ 3 ∷ 4 ∷ []) $ closes-slice ! tt L.the-row ys (t .cur) (t .same) b o $
-        -- [0 obs; the borrow; the token; the places' token; 4 _18; …; local i at 40 - 2 i; …; 40 _0; …; 42 the reference kept]
-        returns ! (look ! 40 refl) $ forget ! 22 refl $ forget ! 30 refl $ forget ! 32 refl $ forget ! 34 refl $ forget ! 36 refl $ forget ! 38 refl $ forget ! 40 refl $
-        move ! (40 ∷ 41 ∷ []) $ free1 ! $ move ! (38 ∷ 39 ∷ []) $ free1 ! $ move ! (36 ∷ 37 ∷ []) $ free1 ! $ move ! (34 ∷ 35 ∷ []) $ free1 ! $ move ! (32 ∷ 33 ∷ []) $ free1 ! $ move ! (30 ∷ 31 ∷ []) $ free1 ! $ move ! (28 ∷ 29 ∷ []) $ free1 ! $ move ! (26 ∷ 27 ∷ []) $ free1 ! $ move ! (24 ∷ 25 ∷ []) $ free1 ! $ move ! (22 ∷ 23 ∷ []) $ free1 ! $
-        move ! (20 ∷ 21 ∷ []) $ free1 ! $ move ! (18 ∷ 19 ∷ []) $ free1 ! $ move ! (16 ∷ 17 ∷ []) $ free1 ! $ move ! (14 ∷ 15 ∷ []) $ free1 ! $ move ! (12 ∷ 13 ∷ []) $ free1 ! $ move ! (10 ∷ 11 ∷ []) $ free1 ! $ move ! (8 ∷ 9 ∷ []) $ free1 ! $ move ! (6 ∷ 7 ∷ []) $ free1 ! $ move ! (4 ∷ 5 ∷ []) $ free1 ! $ free0 ! $
+        -- [0 obs; the borrow; the token; the places' token; 4 _22; …; local i at 48 - 2 i; …; 48 _0; …; 50 the reference kept]
+        returns ! (look ! 48 refl) $ forget ! 30 refl $ forget ! 38 refl $ forget ! 40 refl $ forget ! 42 refl $ forget ! 44 refl $ forget ! 46 refl $ forget ! 48 refl $
+        move ! (48 ∷ 49 ∷ []) $ free1 ! $ move ! (46 ∷ 47 ∷ []) $ free1 ! $ move ! (44 ∷ 45 ∷ []) $ free1 ! $ move ! (42 ∷ 43 ∷ []) $ free1 ! $ move ! (40 ∷ 41 ∷ []) $ free1 ! $ move ! (38 ∷ 39 ∷ []) $ free1 ! $ move ! (36 ∷ 37 ∷ []) $ free1 ! $ move ! (34 ∷ 35 ∷ []) $ free1 ! $
+        move ! (32 ∷ 33 ∷ []) $ free1 ! $ move ! (30 ∷ 31 ∷ []) $ free1 ! $ move ! (28 ∷ 29 ∷ []) $ free1 ! $ move ! (26 ∷ 27 ∷ []) $ free1 ! $ move ! (24 ∷ 25 ∷ []) $ free1 ! $ move ! (22 ∷ 23 ∷ []) $ free1 ! $ move ! (20 ∷ 21 ∷ []) $ free1 ! $ move ! (18 ∷ 19 ∷ []) $ free1 ! $
+        move ! (16 ∷ 17 ∷ []) $ free1 ! $ move ! (14 ∷ 15 ∷ []) $ free1 ! $ move ! (12 ∷ 13 ∷ []) $ free1 ! $ move ! (10 ∷ 11 ∷ []) $ free1 ! $ move ! (8 ∷ 9 ∷ []) $ free1 ! $ move ! (6 ∷ 7 ∷ []) $ free1 ! $ move ! (4 ∷ 5 ∷ []) $ free1 ! $ free0 ! $
         by ! (exits (t .s) (t .cur) end-is row-is (t .same) (t .is))
       where
         past-it : t .s .limit ≤ t .i
@@ -390,13 +411,13 @@ module _ {M : Type 1} (𝓤 : URA M) (H : Heap 𝓤) (A : Atoms 𝓤) (W : Given
       move ! (3 ∷ 4 ∷ 7 ∷ 0 ∷ 5 ∷ 1 ∷ []) $ keep ! (0 ∷ 1 ∷ 2 ∷ 3 ∷ 4 ∷ 5 ∷ []) $
       -- [obs; the borrow; its token; the places' borrow; its token; the reference kept]
       enter ! (𝓣 .C) (𝓣 .Λ) code.function (sl ∷ pl ∷ pass-val start ∷ []) _ $
-      alloc1 ! (λ l₀. alloc1 ! (λ l₁. alloc1 ! (λ l₂. alloc1 ! (λ l₃. alloc1 ! (λ l₄. alloc1 ! (λ l₅. alloc1 ! (λ l₆. alloc1 ! (λ l₇. alloc1 ! (λ l₈. alloc1 ! (λ l₉. alloc1 ! (λ l₁₀. alloc1 ! (λ l₁₁. alloc1 ! (λ l₁₂. alloc1 ! (λ l₁₃. alloc1 ! (λ l₁₄. alloc1 ! (λ l₁₅. alloc1 ! (λ l₁₆. alloc1 ! (λ l₁₇. alloc1 ! (λ l₁₈. alloc0 ! $ params1 ! $
-      pass1 ! (init ! 34 refl (tt, (tt, (record { fits = room .0 }, tt)))) $ pass1 ! (init ! 32 refl (tt, (tt, (record { fits = room₁ .0 }, tt)))) $ pass1 ! (init ! 30 refl (LL.lawful S.the-type S′.the-laws 𝓤 H A W .typed start _ start-is .0)) $ pass0 ! $
-      assigns ! (of-opd ! (load ! (from ! (stop !)) (look ! 30 refl))) (from ! (stop !)) (init ! 28 refl (LL.lawful S.the-type S′.the-laws 𝓤 H A W .typed start _ start-is .0)) $
-      assigns ! (of-opd ! (lit ! tt)) (from ! (stop !)) (init ! 26 refl (tt, record { fits = lit< tt })) $
-      move ! (38 ∷ 39 ∷ 40 ∷ []) $ opens-slice ! tt L.the-row ys b o $
-      move ! (42 ∷ 43 ∷ []) $ looks-slice ! tt u32 (Is u32) (shows 𝓤 H A u32) (uint-vals w32) (uint-tells w32) (uint-copy 𝓤 H A W w32) ps b₁ o₁ (λ q′. move ! (2 ∷ []) $ drop ! $
-      looped 𝓣 fm k₁ k₂ q′ l₀ l₁ l₂ l₃ l₄ l₅ l₆ l₇ l₈ l₉ l₁₀ l₁₁ l₁₂ l₁₃ l₁₄ l₁₅ l₁₆ l₁₇ l₁₈ (record { i = 0; cur = ys; s = start; within = zero-le; same = refl; lim = pre; ends = refl; rows = refl; is = start-is })))))))))))))))))))))
+      alloc1 ! (λ l₀. alloc1 ! (λ l₁. alloc1 ! (λ l₂. alloc1 ! (λ l₃. alloc1 ! (λ l₄. alloc1 ! (λ l₅. alloc1 ! (λ l₆. alloc1 ! (λ l₇. alloc1 ! (λ l₈. alloc1 ! (λ l₉. alloc1 ! (λ l₁₀. alloc1 ! (λ l₁₁. alloc1 ! (λ l₁₂. alloc1 ! (λ l₁₃. alloc1 ! (λ l₁₄. alloc1 ! (λ l₁₅. alloc1 ! (λ l₁₆. alloc1 ! (λ l₁₇. alloc1 ! (λ l₁₈. alloc1 ! (λ l₁₉. alloc1 ! (λ l₂₀. alloc1 ! (λ l₂₁. alloc1 ! (λ l₂₂. alloc0 ! $ params1 ! $
+      pass1 ! (init ! 42 refl (tt, (tt, (record { fits = room .0 }, tt)))) $ pass1 ! (init ! 40 refl (tt, (tt, (record { fits = room₁ .0 }, tt)))) $ pass1 ! (init ! 38 refl (LL.lawful S.the-type S′.the-laws 𝓤 H A W .typed start _ start-is .0)) $ pass0 ! $
+      assigns ! (of-opd ! (load ! (from ! (stop !)) (look ! 38 refl))) (from ! (stop !)) (init ! 36 refl (LL.lawful S.the-type S′.the-laws 𝓤 H A W .typed start _ start-is .0)) $
+      assigns ! (of-opd ! (lit ! tt)) (from ! (stop !)) (init ! 34 refl (tt, record { fits = lit< tt })) $
+      move ! (46 ∷ 47 ∷ 48 ∷ []) $ opens-slice ! tt L.the-row ys b o $
+      move ! (50 ∷ 51 ∷ []) $ looks-slice ! tt u32 (Is u32) (shows 𝓤 H A u32) (uint-vals w32) (uint-tells w32) (uint-copy 𝓤 H A W w32) ps b₁ o₁ (λ q′. move ! (2 ∷ []) $ drop ! $
+      looped 𝓣 fm k₁ k₂ q′ l₀ l₁ l₂ l₃ l₄ l₅ l₆ l₇ l₈ l₉ l₁₀ l₁₁ l₁₂ l₁₃ l₁₄ l₁₅ l₁₆ l₁₇ l₁₈ l₁₉ l₂₀ l₂₁ l₂₂ (record { i = 0; cur = ys; s = start; within = zero-le; same = refl; lim = pre; ends = refl; rows = refl; is = start-is })))))))))))))))))))))))))
 
 module _ {M : Type 1} (𝓤 : URA M) (H : Heap 𝓤) (A : Atoms 𝓤) (W : Given 𝓤 H A) (at-mem : Memory → SProp 𝓤) (run : Routine → Fun 𝓤) where
   self-walks : (𝓣 : Tables 𝓤 H) → Triple 𝓤 (𝓣 .C #place-in) (Places 𝓤 H A at-mem run) → Triple 𝓤 (𝓣 .C #step) (Steps 𝓤 H A at-mem run) → Walks 𝓤 H A self.ended stayed (WpFn 𝓤 H (𝓣 .C) (𝓣 .Λ) code.function) (self.clauses 𝓤 H A at-mem run)
