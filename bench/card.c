@@ -124,21 +124,88 @@ static void set_burst(const struct signal *mpb, struct descriptor *d)
     }
 }
 
-/* A text, from here to the end of the line. */
-static void obey_text(struct script *in, struct line *l)
+static bool text_is_next(struct script *in)
+{
+    skip_blanks(in);
+    return strncmp(in->at, "SG", 2) == 0;
+}
+
+/* Reads a text, from here to the end of the line. Gives the number of its refusal, or 0. */
+static uint32_t descriptor_of_text(struct script *in, struct descriptor *d)
 {
     static struct text t;
     const char *end = memchr(in->at, '\n', (size_t)(in->end - in->at));
-    struct descriptor d = { .tariff = TARIFF_NONE, .burst = BURST_NONE };
     uint32_t refused = read_text(&t, in->at, end);
 
-    if (refused > 0) {
+    *d = (struct descriptor){ .tariff = TARIFF_NONE, .burst = BURST_NONE };
+    if (refused > 0)
+        return refused;
+    set_tariff(&t.signals[AMET_EM], &t.signals[AMET_PHSM], d);
+    set_burst(&t.signals[AMET_MPB], d);
+    return 0;
+}
+
+static void obey_text(struct script *in, struct line *l)
+{
+    struct descriptor d;
+    uint32_t refused = descriptor_of_text(in, &d);
+
+    if (refused > 0)
         put("no ", refused, "\n");
-        return;
+    else
+        put_answer(l, &d);
+}
+
+/* A descriptor that is asked about or committed, and the number that its text is refused with,
+   or 0. */
+struct offer {
+    struct descriptor d;
+    uint32_t refused;
+};
+
+static bool read_offer(struct script *in, struct offer *o)
+{
+    *o = (struct offer){ .refused = 0 };
+    if (text_is_next(in)) {
+        o->refused = descriptor_of_text(in, &o->d);
+        return true;
     }
-    set_tariff(&t.signals[AMET_EM], &t.signals[AMET_PHSM], &d);
-    set_burst(&t.signals[AMET_MPB], &d);
-    put_answer(l, &d);
+    return word(in, "sig") && read_sig(in, &o->d);
+}
+
+/* The number that an offer is refused with, its ticket aside, or 0. */
+static uint32_t offer_refusal(const struct line *l, const struct offer *o)
+{
+    if (l->serial == UINT32_MAX)
+        return 17;
+    return o->refused > 0 ? o->refused : refusal(l, &o->d);
+}
+
+/* Answers what a descriptor would get, and the ticket. */
+static bool ask(struct script *in, struct line *l)
+{
+    struct offer o;
+    uint32_t cause;
+
+    if (!read_offer(in, &o))
+        return false;
+    cause = offer_refusal(l, &o);
+    put(cause > 0 ? "no " : "ok ", cause > 0 ? cause : cancelled(l, &o.d), " ");
+    put("", l->serial, "\n");
+    return true;
+}
+
+/* Gives a descriptor to the line if its ticket still holds. */
+static bool commit(struct script *in, struct line *l)
+{
+    struct offer o;
+    uint32_t ticket, cause;
+
+    if (!number(in, &ticket) || !read_offer(in, &o))
+        return false;
+    cause = ticket != l->serial ? 16 : offer_refusal(l, &o);
+    put(cause > 0 ? "no " : "ok ", cause > 0 ? cause : describe(l, &o.d), "\n");
+    return true;
 }
 
 static bool audit(struct script *in, struct line *l)
@@ -156,13 +223,13 @@ static bool at(struct script *in, struct card *c)
     static const struct {
         const char *name;
         bool (*obey)(struct script *, struct line *);
-    } commands[] = { { "sig", sig }, { "rp", rp }, { "hook", hook }, { "audit", audit } };
+    } commands[] = { { "sig", sig }, { "rp", rp }, { "hook", hook }, { "audit", audit },
+                     { "ask", ask }, { "commit", commit } };
     uint32_t place;
 
     if (!number(in, &place) || place >= c->count)
         return false;
-    skip_blanks(in);
-    if (strncmp(in->at, "SG", 2) == 0) {
+    if (text_is_next(in)) {
         obey_text(in, &c->lines[place]);
         return true;
     }
@@ -224,7 +291,21 @@ static uint32_t group_refusal(const struct card *c, const struct group *g,
     return cause;
 }
 
-/* A rate that all places named take, or none. The same rate twice is as once. */
+/* Gives the rate to each line named, once. */
+static void give_rate(struct card *c, const struct group *g, const struct descriptor *rate)
+{
+    bool given[LONGEST] = { false };
+
+    for (uint32_t i = 0; i < g->count; i++) {
+        uint32_t place = g->places[i];
+
+        if (!given[place])
+            describe(&c->lines[place], rate);
+        given[place] = true;
+    }
+}
+
+/* A rate that all places named take, or none. */
 static bool group(struct script *in, struct card *c)
 {
     struct descriptor rate = { .tariff = TARIFF_RATE, .burst = BURST_KEEP };
@@ -234,8 +315,8 @@ static bool group(struct script *in, struct card *c)
     if (!number(in, &rate.period) || !read_group(in, &g))
         return false;
     cause = group_refusal(c, &g, &rate);
-    for (uint32_t i = 0; i < g.count && cause == 0; i++)
-        describe(&c->lines[g.places[i]], &rate);
+    if (cause == 0)
+        give_rate(c, &g, &rate);
     put(cause > 0 ? "no " : "ok ", cause, "\n");
     return true;
 }

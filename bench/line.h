@@ -38,6 +38,7 @@ struct line {
     uint32_t left;                /* seconds left of the phase at that interval's start;
                                      0 if endless */
     uint32_t phase_count;
+    uint32_t serial;              /* accepted descriptors, hook events and periods, held */
     struct phase phases[8];
 };
 
@@ -272,11 +273,24 @@ static void fresh_tariff(struct line *l, const struct descriptor *d)
     }
 }
 
+/* The burst pulses that a descriptor cancels. */
+static uint32_t cancelled(const struct line *l, const struct descriptor *d)
+{
+    return d->burst == BURST_NONE && l->burst_runs ? l->owed : 0;
+}
+
+/* A call was accepted, and the tickets of before are void. */
+static void add_serial(struct line *l)
+{
+    l->serial += l->serial < UINT32_MAX;
+}
+
 /* Takes an accepted descriptor and answers the burst pulses cancelled. */
 static uint32_t describe(struct line *l, const struct descriptor *d)
 {
-    uint32_t cancelled = d->burst == BURST_NONE && l->burst_runs ? l->owed : 0;
+    uint32_t count = cancelled(l, d);
 
+    add_serial(l);
     settle(l);
     if (d->tariff == TARIFF_NONE)
         l->tariff = IDLE;
@@ -292,7 +306,7 @@ static uint32_t describe(struct line *l, const struct descriptor *d)
         l->burst_since = l->interval;
     }
     look_ahead(l);
-    return cancelled;
+    return count;
 }
 
 /* Makes a line of a sound pulse length and gap. */

@@ -124,6 +124,20 @@ static bool read_phase(struct script *in, struct phase *p)
         && number(in, &p->ci) && number(in, &p->pd) && line_ends(in);
 }
 
+/* A descriptor with its phase lines. */
+static bool read_sig(struct script *in, struct descriptor *d)
+{
+    uint32_t sound = 0;
+
+    if (!read_descriptor(in, d))
+        return false;
+    for (uint32_t i = 0; i < d->phase_count; i++) {
+        next_line(in);
+        sound += read_phase(in, &d->phases[i]);
+    }
+    return sound == d->phase_count;
+}
+
 /* Gives a descriptor to a line, and puts the answer. */
 static void put_answer(struct line *l, const struct descriptor *d)
 {
@@ -139,15 +153,8 @@ static void put_answer(struct line *l, const struct descriptor *d)
 static bool sig(struct script *in, struct line *l)
 {
     struct descriptor d = { 0 };
-    uint32_t sound = 0;
 
-    if (!read_descriptor(in, &d))
-        return false;
-    for (uint32_t i = 0; i < d.phase_count; i++) {
-        next_line(in);
-        sound += read_phase(in, &d.phases[i]);
-    }
-    if (sound < d.phase_count)
+    if (!read_sig(in, &d))
         return false;
     put_answer(l, &d);
     return true;
@@ -175,8 +182,10 @@ static bool rp(struct script *in, struct line *l)
 
     if ((!off && !number(in, &n)) || !line_ends(in))
         return false;
-    if (off || n > 0)
+    if (off || n > 0) {
         l->report_period = n;
+        add_serial(l);
+    }
     put_text(off || n > 0 ? "ok 0\n" : "no 2\n");
     return true;
 }
@@ -188,6 +197,8 @@ static bool hook(struct script *in, struct line *l)
 
     if ((!keep && !word(in, "stop")) || !line_ends(in))
         return false;
+    if (keep)
+        add_serial(l);
     put("ok ", keep ? 0 : describe(l, &stop), "\n");
     return true;
 }

@@ -32,6 +32,13 @@ says "at ${zeros}0${blanks}audit${blanks}" 'a 3 0'
 says "${blanks}group${blanks}${zeros}300 ${zeros}0 ${zeros}1" 'no 15'
 says "group 300${blanks}0${blanks}" 'no 3'
 says "group 300 1$zeros" bad
+says "at 0${blanks}ask${blanks}SG{${blanks}amet/em{pri=${blanks}400}}" 'ok 0 3'
+says "at 0 ask SG{}${blanks}" 'no 12 3'
+says "at 0 ask sig ph${blanks}1 none"
+says "200 1 1${blanks}1 0 1 ${zeros}0" 'ok 0 3'
+says "at 0 commit ${zeros}2 SG{}${blanks}" 'no 16'
+says "at 0 commit 3$zeros SG{}" bad
+says "at 0 commit${blanks}${zeros}3${blanks}SG{${blanks}}" 'ok 0'
 tests/vectors.sh target/bin/card "$work/card.in"
 
 script=texts
