@@ -1,15 +1,16 @@
 -- `Line::ask_text` meets its contract.
 use borrow.Author.Needs.{needs}
-use Rattle.line.specs.Lines.{askOf}
 use Rattle.line.proofs.Line.ask_text.Statement.{statement}
 use Rattle.line.proofs.Line.ask_text.Tie as tie
 
-commit-text-requires : tie.Need-commit-text-requires
-commit-text-requires c κs = search needs
+describe-text-requires : tie.Need-describe-text-requires
+describe-text-requires c κs = search needs
+
+asking-requires : tie.Need-asking-requires
+asking-requires c κs = search needs
 
 returns : tie.Need-returns
-unfolding askOf
-returns c = rw (c .commit-text .ensures)
+returns c = rw (c .asking .ensures, c .before .describe-text .ensures)
 
 pub ask-text-spec : {M : Type 1} → statement M
-ask-text-spec = tie.close (tie.spec commit-text-requires returns)
+ask-text-spec = tie.close (tie.spec describe-text-requires asking-requires returns)

@@ -1,29 +1,16 @@
 -- `Line::commit` meets its contract.
 use borrow.Author.Needs.{needs}
-use Rattle.line.specs.Lines.{commitOf}
 use Rattle.line.proofs.Line.commit.Statement.{statement}
 use Rattle.line.proofs.Line.commit.Tie as tie
-
-ticket-ruling-requires : tie.Need-ticket-ruling-requires
-ticket-ruling-requires c κs = search needs
-
-enum-known-ruling : tie.Need-enum-known-ruling
-enum-known-ruling c = search needs
-
-enum-told : tie.Need-enum-told
-enum-told c = search needs
 
 describe-requires : tie.Need-describe-requires
 describe-requires c κs = search needs
 
-returns : tie.Need-returns
-unfolding commitOf
-returns c = rw (← c .before .before .before .ticket-ruling .ensures, c .before .ruling .given .1)
+committing-requires : tie.Need-committing-requires
+committing-requires c κs = search needs
 
-returns-2 : tie.Need-returns-2
-unfolding commitOf
-returns-2 c = rw (← c .before .before .before .ticket-ruling .ensures, c .before .enum-told .given .1, c .describe .ensures)
+returns : tie.Need-returns
+returns c = rw (c .committing .ensures, c .before .describe .ensures)
 
 pub commit-spec : {M : Type 1} → statement M
-commit-spec =
-    tie.close (tie.spec ticket-ruling-requires enum-known-ruling enum-told describe-requires returns returns-2)
+commit-spec = tie.close (tie.spec describe-requires committing-requires returns)

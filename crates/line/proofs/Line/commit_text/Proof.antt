@@ -1,29 +1,16 @@
 -- `Line::commit_text` meets its contract.
 use borrow.Author.Needs.{needs}
-use Rattle.line.specs.Lines.{commitOf}
 use Rattle.line.proofs.Line.commit_text.Statement.{statement}
 use Rattle.line.proofs.Line.commit_text.Tie as tie
-
-ticket-ruling-requires : tie.Need-ticket-ruling-requires
-ticket-ruling-requires c κs = search needs
-
-enum-known-ruling : tie.Need-enum-known-ruling
-enum-known-ruling c = search needs
-
-enum-told : tie.Need-enum-told
-enum-told c = search needs
 
 describe-text-requires : tie.Need-describe-text-requires
 describe-text-requires c κs = search needs
 
-returns : tie.Need-returns
-unfolding commitOf
-returns c = rw (← c .before .before .before .ticket-ruling .ensures, c .before .ruling .given .1)
+committing-requires : tie.Need-committing-requires
+committing-requires c κs = search needs
 
-returns-2 : tie.Need-returns-2
-unfolding commitOf
-returns-2 c = rw (← c .before .before .before .ticket-ruling .ensures, c .before .enum-told .given .1, c .describe-text .ensures)
+returns : tie.Need-returns
+returns c = rw (c .committing .ensures, c .before .describe-text .ensures)
 
 pub commit-text-spec : {M : Type 1} → statement M
-commit-text-spec =
-    tie.close (tie.spec ticket-ruling-requires enum-known-ruling enum-told describe-text-requires returns returns-2)
+commit-text-spec = tie.close (tie.spec describe-text-requires committing-requires returns)

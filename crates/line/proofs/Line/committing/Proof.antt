@@ -1,0 +1,25 @@
+-- `Line::committing` meets its contract.
+use borrow.Author.Needs.{needs}
+use Rattle.line.specs.Lines.{commitOf}
+use Rattle.line.proofs.Line.committing.Statement.{statement}
+use Rattle.line.proofs.Line.committing.Tie as tie
+
+ticket-ruling-requires : tie.Need-ticket-ruling-requires
+ticket-ruling-requires c κs = search needs
+
+enum-known-ruling : tie.Need-enum-known-ruling
+enum-known-ruling c = search needs
+
+enum-told : tie.Need-enum-told
+enum-told c = search needs
+
+returns : tie.Need-returns
+unfolding commitOf
+returns c = rw (← c .before .before .before .ticket-ruling .ensures, c .before .ruling .given .1)
+
+returns-2 : tie.Need-returns-2
+unfolding commitOf
+returns-2 c = rw (← c .before .before .ticket-ruling .ensures, c .enum-told .given .1)
+
+pub committing-spec : {M : Type 1} → statement M
+committing-spec = tie.close (tie.spec ticket-ruling-requires enum-known-ruling enum-told returns returns-2)
