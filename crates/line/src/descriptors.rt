@@ -8,7 +8,6 @@ ghost use Rattle.burst.specs.Bursts.{isRunning};
 ghost use Rattle.line.specs.Lines.{withEm, withPhases, tariffChanged, burstChanged, describedBy, describeOf};
 use super::Answered;
 use super::Line;
-use super::Verdict;
 use burst::Burst;
 use descriptor::BurstPart;
 use descriptor::Ruling;
@@ -110,10 +109,7 @@ impl Line {
     {
         let ruling = self.ruling(tariff, table, burst);
         match ruling {
-            Ruling::TurnedDown(refusal) => Answered {
-                line: self,
-                verdict: Verdict::Refused(refusal),
-            },
+            Ruling::TurnedDown(refusal) => self.refusing(refusal),
             Ruling::Allowed => {
                 let s = self.state;
                 let old = s.burst;

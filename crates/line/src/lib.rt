@@ -1,6 +1,6 @@
 // The line of a metering gateway: its record, its calls and their answers.
 ghost use mathlib.Core.Path.{_≡_};
-ghost use Rattle.line.specs.Lines.{withState, accepting};
+ghost use Rattle.line.specs.Lines.{withState, accepting, refusing};
 
 mod descriptors;
 mod hooks;
@@ -72,6 +72,16 @@ impl Line {
                 ..self
             },
             verdict: Verdict::Accepted(cancelled),
+        }
+    }
+
+    // The answer of a refused command, which leaves the line as it was.
+    pub(crate) fn refusing(self, why: Refusal) -> Answered
+        ensures { λ r. ⌜ r ≡ refusing self why ⌝ }
+    {
+        Answered {
+            line: self,
+            verdict: Verdict::Refused(why),
         }
     }
 }

@@ -4,7 +4,6 @@ ghost use Rattle.line.specs.Lines.{periodOf, noPeriodOf, auditOf};
 use super::Answered;
 use super::Audited;
 use super::Line;
-use super::Verdict;
 use descriptor::Refusal;
 
 impl Line {
@@ -13,10 +12,7 @@ impl Line {
         ensures { λ r. ⌜ r ≡ periodOf self rp ⌝ }
     {
         if rp == 0 {
-            return Answered {
-                line: self,
-                verdict: Verdict::Refused(Refusal::Period),
-            };
+            return self.refusing(Refusal::Period);
         }
         self.state.counters.rp = rp;
         self.accepting(0)

@@ -3,7 +3,6 @@ ghost use mathlib.Core.Path.{_≡_};
 ghost use Rattle.line.specs.Lines.{describeTextOf};
 use super::Answered;
 use super::Line;
-use super::Verdict;
 use descriptor::Ruling;
 
 impl Line {
@@ -14,10 +13,7 @@ impl Line {
         let reading = sg::read(text);
         let ruling = reading.ruling;
         match ruling {
-            Ruling::TurnedDown(refusal) => Answered {
-                line: self,
-                verdict: Verdict::Refused(refusal),
-            },
+            Ruling::TurnedDown(refusal) => self.refusing(refusal),
             Ruling::Allowed => {
                 let tariff = reading.tariff;
                 let burst = reading.burst;

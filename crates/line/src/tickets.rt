@@ -5,7 +5,6 @@ ghost use Rattle.line.specs.Lines.{describeOf, describeTextOf, askOf, co
 use super::Answered;
 use super::Asked;
 use super::Line;
-use super::Verdict;
 use descriptor::BurstPart;
 use descriptor::Ruling;
 use descriptor::TariffPart;
@@ -17,10 +16,7 @@ impl Line {
     {
         let ruling = descriptor::ticket_ruling(ticket, self.serial);
         match ruling {
-            Ruling::TurnedDown(refusal) => Answered {
-                line: self,
-                verdict: Verdict::Refused(refusal),
-            },
+            Ruling::TurnedDown(refusal) => self.refusing(refusal),
             Ruling::Allowed => given,
         }
     }

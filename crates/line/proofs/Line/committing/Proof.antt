@@ -10,16 +10,21 @@ ticket-ruling-requires c κs = search needs
 enum-known-ruling : tie.Need-enum-known-ruling
 enum-known-ruling c = search needs
 
+refusing-requires : tie.Need-refusing-requires
+refusing-requires c κs = search needs
+
 enum-told : tie.Need-enum-told
 enum-told c = search needs
 
 returns : tie.Need-returns
 unfolding commitOf
-returns c = rw (← c .before .before .before .ticket-ruling .ensures, c .before .ruling .given .1)
+returns c =
+    let k = c .before .before in
+    rw (← k .before .before .ticket-ruling .ensures, k .ruling .given .1, c .refusing .ensures)
 
 returns-2 : tie.Need-returns-2
 unfolding commitOf
 returns-2 c = rw (← c .before .before .ticket-ruling .ensures, c .enum-told .given .1)
 
 pub committing-spec : {M : Type 1} → statement M
-committing-spec = tie.close (tie.spec ticket-ruling-requires enum-known-ruling enum-told returns returns-2)
+committing-spec = tie.close (tie.spec ticket-ruling-requires enum-known-ruling refusing-requires enum-told returns returns-2)

@@ -10,6 +10,9 @@ read-requires c κs = search needs
 enum-known-ruling : tie.Need-enum-known-ruling
 enum-known-ruling c = search needs
 
+refusing-requires : tie.Need-refusing-requires
+refusing-requires c κs = search needs
+
 enum-told : tie.Need-enum-told
 enum-told c = search needs
 
@@ -20,7 +23,9 @@ described-requires : tie.Need-described-requires
 described-requires c κs = search needs
 
 returns : tie.Need-returns
-returns c = rw (← text-is, ← c .before .before .before .read .ensures, c .before .ruling .given .1)
+returns c =
+    let k = c .before .before in
+    rw (← text-is, ← k .before .before .read .ensures, k .ruling .given .1, c .refusing .ensures)
 
 returns-2 : tie.Need-returns-2
 returns-2 c =
@@ -33,6 +38,7 @@ describe-text-spec =
     (tie.spec
     read-requires
     enum-known-ruling
+    refusing-requires
     enum-told
     phases-of-requires
     described-requires

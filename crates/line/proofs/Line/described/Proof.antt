@@ -9,6 +9,9 @@ ruling-requires c κs = search needs
 enum-known-ruling : tie.Need-enum-known-ruling
 enum-known-ruling c = search needs
 
+refusing-requires : tie.Need-refusing-requires
+refusing-requires c κs = search needs
+
 enum-told : tie.Need-enum-told
 enum-told c = search needs
 
@@ -25,7 +28,7 @@ accepting-requires : tie.Need-accepting-requires
 accepting-requires c κs = search needs
 
 returns : tie.Need-returns
-returns c = rw (← c .before .before .before .ruling .ensures, c .before .ruling2 .given .1)
+returns c = rw (← c .before .before .before .before .ruling .ensures, c .before .before .ruling2 .given .1, c .refusing .ensures)
 
 returns-2 : tie.Need-returns-2
 returns-2 c =
@@ -39,6 +42,7 @@ described-spec =
     (tie.spec
     ruling-requires
     enum-known-ruling
+    refusing-requires
     enum-told
     cancelled-by-requires
     with-tariff-part-requires

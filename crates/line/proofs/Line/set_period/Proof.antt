@@ -5,16 +5,14 @@ use borrow.Author.Needs.{needs}
 use borrow.Author.Tests.{eq-eqb, ne-eqb}
 use Rattle.descriptor.specs.Refusals.{ruling}
 use Rattle.descriptor.specs.declared.Refusal.the-variants.{Period}
-use Rattle.line.specs.Lines.{accepting, withPeriod, periodOf}
+use Rattle.line.specs.Lines.{accepting, refusing, withPeriod, periodOf}
 use Rattle.line.specs.declared.Line.{Line}
-use Rattle.line.specs.declared.Answered.{Answered}
-use Rattle.line.specs.declared.Verdict.the-variants.{Refused}
 use Rattle.line.proofs.Line.set_period.Statement.{statement}
 use Rattle.line.proofs.Line.set_period.Tie as tie
 
 module _ (l : Line) (n : ℕ) where
   -- a period of 0 leaves the line as it was
-  refuses : n ≡ 0 → _≡_ {A = Answered} (record { line = l; verdict = Refused Period }) (periodOf l n)
+  refuses : n ≡ 0 → refusing l Period ≡ periodOf l n
   unfolding periodOf ruling
   refuses h = rw (eq-eqb n 0 h)
 
@@ -23,11 +21,16 @@ module _ (l : Line) (n : ℕ) where
   unfolding periodOf ruling
   sets h = rw (ne-eqb n 0 h)
 
+refusing-requires : tie.Need-refusing-requires
+refusing-requires c κs = search needs
+
 accepting-requires : tie.Need-accepting-requires
 accepting-requires c κs = search needs
 
 returns : tie.Need-returns
-returns c = search refuses
+returns c =
+    let k = c .before .before in
+    rw (c .refusing .ensures, ← refuses (k .args .self) (k .args .rp) (c .before .if1 .taken))
 
 returns-2 : tie.Need-returns-2
 returns-2 c =
@@ -35,4 +38,4 @@ returns-2 c =
     rw (c .accepting .ensures, c .before .self .given, ← sets (k .before .args .self) (k .before .args .rp) (k .if1 .left))
 
 pub set-period-spec : {M : Type 1} → statement M
-set-period-spec = tie.close (tie.spec returns accepting-requires returns-2)
+set-period-spec = tie.close (tie.spec refusing-requires returns accepting-requires returns-2)
