@@ -14,7 +14,8 @@ use Rattle.descriptor.proofs.Table.{Applies, Ascending, none-applies, refused-a
 use Rattle.grammar.specs.Meaning.{Reading, unreadable, senseless, descriptor}
 use Rattle.demand.specs.Names.{Ruling, Allowed, TurnedDown}
 use Rattle.demand.specs.Calls.{Call, describe, ask, hook, period, noPeriod, audit, tick, Answer, accepted, refused, asked, counters, ticked, Entry, asks, readingCauses, causes}
-use Rattle.demand.specs.History.{ticks, burstIn, owed, burstRuns, running, serialIn}
+use Rattle.demand.specs.History.{ticks, burstIn, owed, burstRuns, running}
+use Rattle.demand.specs.Serials.{serialIn}
 use Rattle.demand.specs.Answers.{rulingAfter, answerAfter}
 use Rattle.demand.proofs.AnswerKinds.{ruledAnswer}
 

@@ -22,7 +22,7 @@ use Rattle.line.specs.Lines.{hookOf, periodOf, noPeriodOf, auditOf, askOf, tick
 use Rattle.line.specs.declared.Line.{Line}
 use Rattle.demand.specs.Names.{Front, NoFront, TariffFront, BurstFront, Phase, TariffPart, NoTariff, KeepTariff, Rate, Em, Phased, BurstPart, NoBurst, KeepBurst, Start, KeepHook, Stop, Ruling, Allowed, TurnedDown, Reading, unreadable, senseless, descriptor}
 use Rattle.demand.specs.Calls.{Call, describe, ask, hook, period, noPeriod, audit, tick, Answer}
-use Rattle.demand.specs.History.{ifAccepted}
+use Rattle.demand.specs.Serials.{isChange}
 use Rattle.demand.specs.Machine.{rulingOf, Outcome, outcome, answered, step}
 use Rattle.demand.proofs.Described.{changeOf, describe-step}
 
@@ -103,7 +103,7 @@ tick-favours (descriptor t ls b) l x =
 
 -- a call that is not accepted
 abbrev Keeps : Reading → Line → Outcome → Type 0
-Keeps d l (outcome a l′) = ifAccepted a (λ k. 1) ≡ 0 → Favours d l → Favours d l′
+Keeps d l (outcome a l′) = isChange a ≡ 0 → Favours d l → Favours d l′
 
 ruled : (d : Reading) (u : Ruling) (l changed : Line) (k : ℕ) → Keeps d l (answered (answeredBy u l changed k))
 ruled d Allowed l changed k = λ no x. absurd (omega arith)
@@ -120,5 +120,5 @@ step-keeps d l noPeriod = λ no x. absurd (omega arith)
 step-keeps d l audit = λ no x. x
 step-keeps d l tick = λ no x. tick-favours d l x
 
-pub keeps : (d : Reading) (l l′ : Line) (c : Call) (a : Answer) → step l c ≡ outcome a l′ → ifAccepted a (λ k. 1) ≡ 0 → Favours d l → Favours d l′
+pub keeps : (d : Reading) (l l′ : Line) (c : Call) (a : Answer) → step l c ≡ outcome a l′ → isChange a ≡ 0 → Favours d l → Favours d l′
 keeps d l l′ c a e = rw e at (step-keeps d l c)

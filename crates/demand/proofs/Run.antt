@@ -24,7 +24,8 @@ use Rattle.line.specs.Lines.{freshLine, hookOf, periodOf, noPeriodOf, auditOf, 
 use Rattle.line.specs.declared.Line.{Line}
 use Rattle.grammar.specs.Meaning.{Reading, unreadable, senseless, descriptor}
 use Rattle.demand.specs.Calls.{Call, describe, ask, hook, period, noPeriod, audit, tick, Answer, accepted, asked, counters, ticked, Entry}
-use Rattle.demand.specs.History.{sum, changes, serialIn, ticks, lastFront, burstIn, owed, burstRuns, running, frontsSinceEm, sinceReport, periodIn, pulseOn, never, idle}
+use Rattle.demand.specs.History.{sum, ticks, lastFront, burstIn, owed, burstRuns, running, frontsSinceEm, sinceReport, periodIn, pulseOn, never, idle}
+use Rattle.demand.specs.Serials.{changes, serialIn}
 use Rattle.demand.specs.Answers.{rulingAfter, answerAfter}
 use Rattle.demand.specs.Machine.{rulingOf, entryFor, Outcome, outcome, answered, step, Past, past, noted, afterCalls, entries, lineAfter}
 use Rattle.slots.proofs.Fresh.{agree-idle}

@@ -12,7 +12,7 @@ use Rattle.line.specs.declared.Line.{Line}
 use Rattle.grammar.specs.Meaning.{Reading, unreadable, senseless, descriptor}
 use Rattle.demand.specs.Names.{Phase, TariffPart, NoTariff, KeepTariff, Rate, Em, Phased, BurstPart, NoBurst, KeepBurst, Start, KeepHook, Stop, Ruling, Allowed, TurnedDown}
 use Rattle.demand.specs.Calls.{Call, describe, ask, hook, period, noPeriod, audit, tick, Answer, accepted, refused, asked, counters, ticked}
-use Rattle.demand.specs.History.{ifAccepted}
+use Rattle.demand.specs.Serials.{isChange}
 use Rattle.demand.specs.Machine.{rulingOf, Outcome, outcome, answered, step}
 use Rattle.demand.proofs.Described.{changeOf, describedBy, describe-step}
 
@@ -20,7 +20,7 @@ abbrev pub serialBy : Answer → ℕ → ℕ
 serialBy a n = elim a [ accepted k ↦ oneMore n | refused m ↦ n | asked w m ↦ n | counters c m ↦ n | ticked t ↦ n ]
 
 -- as the history counts them
-pub serial-held : (a : Answer) (n : ℕ) → serialBy a (min 4294967295 n) ≡ min 4294967295 (ifAccepted a (λ k. 1) + n)
+pub serial-held : (a : Answer) (n : ℕ) → serialBy a (min 4294967295 n) ≡ min 4294967295 (isChange a + n)
 serial-held (accepted k) n = omega arith
 serial-held (refused m) n = omega arith
 serial-held (asked w m) n = omega arith

@@ -20,8 +20,9 @@ use Rattle.ticking.specs.Rules.{frontAt}
 use Rattle.line.specs.Lines.{onOf}
 use Rattle.line.specs.declared.Line.{Line}
 use Rattle.grammar.specs.Meaning.{unreadable, senseless, descriptor}
-use Rattle.demand.specs.Calls.{Call, describe, ask, hook, period, noPeriod, audit, tick, Answer, Entry, asks}
-use Rattle.demand.specs.History.{granted, frontOf, sum, ifAccepted, serialIn, ticks, acceptedPulses, begun, cancelled, at, passed, Started, idle, started, oneBegun, burstBy, burstIn, owedOf, owed, burstRuns, burstReady, running}
+use Rattle.demand.specs.Calls.{Call, describe, ask, hook, period, noPeriod, audit, tick, Answer, accepted, refused, asked, counters, ticked, Entry, asks}
+use Rattle.demand.specs.History.{granted, frontOf, sum, ticks, acceptedPulses, begun, cancelled, at, passed, Started, idle, started, oneBegun, burstBy, burstIn, owedOf, owed, burstRuns, burstReady, running}
+use Rattle.demand.specs.Serials.{serialIn}
 use Rattle.demand.specs.Answers.{rulingAfter, burstMayStart}
 use Rattle.demand.proofs.Coupled.{Config}
 use Rattle.demand.proofs.Described.{allowed-reading}
@@ -50,7 +51,7 @@ abbrev pulsesOf : BurstPart → ℕ
 pulsesOf b = elim b [ NoBurst ↦ 0 | KeepBurst ↦ 0 | Start n P ↦ n ]
 
 abbrev cancelledIn : Answer → ℕ
-cancelledIn a = ifAccepted a (λ k. k)
+cancelledIn a = elim a [ accepted k ↦ k | refused n ↦ 0 | asked w n ↦ 0 | counters m n ↦ 0 | ticked t ↦ 0 ]
 
 -- what an entry adds to each count of the sum, where b is the burst before it
 abbrev Balanced : Entry → ℕ → Started → Type 0

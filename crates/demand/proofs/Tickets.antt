@@ -15,7 +15,8 @@ use Rattle.line.specs.Lines.{askOf}
 use Rattle.line.specs.declared.Line.{Line}
 use Rattle.demand.specs.Names.{Ruling, Allowed, TurnedDown, Reading}
 use Rattle.demand.specs.Calls.{Call, describe, ask, hook, period, noPeriod, audit, tick, Answer, accepted, refused, asked, Entry, asks}
-use Rattle.demand.specs.History.{ifAccepted, sum, changes, serialIn, owed}
+use Rattle.demand.specs.History.{sum, owed}
+use Rattle.demand.specs.Serials.{isChange, changes, serialIn}
 use Rattle.demand.specs.Answers.{rulingAfter, answerAfter}
 use Rattle.demand.specs.Machine.{step, outcome, history}
 use Rattle.demand.specs.Tickets.{isQuiet, onlyQuiet, unlessTop, Committed, Tickets}
@@ -87,7 +88,7 @@ module _ (D S clock : ℕ) (cfg : Config D S) (small : clock < 2 ^ 32) where
       sym (rulings-agree D S clock cfg (x ∷ (between ++ h)) (coupled D S clock cfg small (more r q)) (serial-is D S clock cfg (more r q)) (describe none d)) ∙ there
 
   -- ticks and audits are answered as such, so that none of them is accepted
-  quiet-answer : (h : List Entry) (c : Call) → isQuiet c ≡ true → ifAccepted (answerAfter D S h c) (λ k. 1) ≡ 0
+  quiet-answer : (h : List Entry) (c : Call) → isQuiet c ≡ true → isChange (answerAfter D S h c) ≡ 0
   unfolding answerAfter
   quiet-answer h (describe k d) e = absurd (true≢false (sym e))
   quiet-answer h (ask d) e = absurd (true≢false (sym e))
@@ -102,14 +103,14 @@ module _ (D S clock : ℕ) (cfg : Config D S) (small : clock < 2 ^ 32) where
   quiet-unchanged [] h r e = refl
   quiet-unchanged (x ∷ between) h (more {c = c} {a = a} r q) e =
       let both = and-eq-true-iff (isQuiet c) (onlyQuiet between) .0 e in
-      let here : ifAccepted a (λ k. 1) ≡ 0 = rw (answer-right D S clock cfg small (more r q)) (quiet-answer (between ++ h) c (both .0)) in
+      let here : isChange a ≡ 0 = rw (answer-right D S clock cfg small (more r q)) (quiet-answer (between ++ h) c (both .0)) in
       omega (arith, here, quiet-unchanged between h r (both .1))
 
   -- what the ask a told of the history before it
   pub record Told (a : Entry) (before : List Entry) (d : Reading) (would : Answer) (n : ℕ) : Type 0 where
     pub ticket : n ≡ serialIn before
     pub gets : unlessTop (serialIn before) (answerAfter D S before (describe none d)) ≡ would
-    pub silent : ifAccepted (a .answer) (λ k. 1) ≡ 0
+    pub silent : isChange (a .answer) ≡ 0
 
   told-by : {l : Line} (a : Entry) (before : List Entry) (d : Reading) (would : Answer) (n : ℕ) → Run D S clock cfg (a ∷ before) l → a .call ≡ ask d → a .answer ≡ asked would n → Told a before d would n
   told-by a before d would n r c e =
@@ -118,7 +119,7 @@ module _ (D S clock : ℕ) (cfg : Config D S) (small : clock < 2 ^ 32) where
       record { ticket = sym (parts .1); gets = parts .0; silent = rw e refl }
 
   -- the serial at the commit: the accepted calls in between are added
-  serial-between : (a : Entry) (between before : List Entry) → ifAccepted (a .answer) (λ k. 1) ≡ 0 → changes (between ++ (a ∷ before)) ≡ changes between + changes before
+  serial-between : (a : Entry) (between before : List Entry) → isChange (a .answer) ≡ 0 → changes (between ++ (a ∷ before)) ≡ changes between + changes before
   unfolding sum
   serial-between a between before z = sum-append _ between (a ∷ before) ∙ omega arith
 

@@ -8,7 +8,8 @@ use Rattle.demand.specs.Names.{oneMore, reportDue, frontAt, slotAt, quie
 use Rattle.demand.specs.Calls.{Call, describe, ask, hook, period, noPeriod, audit, tick, asks, causes}
 use Rattle.demand.specs.Calls.{Entry, Answer, accepted, refused, asked, counters, ticked}
 use Rattle.demand.specs.History.{ticks, lastFront, passed, burstIn, owed, burstCompletes, burstRuns, burstReady}
-use Rattle.demand.specs.History.{running, frontsSinceEm, sinceReport, periodIn, serialIn}
+use Rattle.demand.specs.History.{running, frontsSinceEm, sinceReport, periodIn}
+use Rattle.demand.specs.Serials.{serialIn}
 
 -- pulses of D ticks, fronts at least S apart
 module _ (D S : ℕ) (h : List Entry) where

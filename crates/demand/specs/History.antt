@@ -1,7 +1,7 @@
 -- What a history says of the line: read from its calls and answers alone. A history is held newest first.
 use mathlib.Core.Bool.{Bool, true, false, cond, not, _&&_, _||_}
 use mathlib.Core.List.{List, [], _∷_}
-use Prim.Native.Nat.{ℕ, _+_, _-_, min, max}
+use Prim.Native.Nat.{ℕ, _+_, _-_, max}
 use lib.Dec.{leb, ltb, eqb}
 use Rattle.slots.specs.Slots.{Running, nothing, phased, emAt, rated, completesAt}
 use Rattle.demand.specs.Names.{Front, Tick, Phase, TariffPart, NoTariff, KeepTariff, Rate, Em, Phased, oneMore}
@@ -36,21 +36,10 @@ acceptedPulses h = sum (λ e. elim (granted e .burst) [ NoBurst ↦ 0 | KeepBurs
 abbrev pub begun : List Entry → ℕ
 begun h = sum (λ e. isBurstFront (frontOf e)) h
 
--- f of the cancelled count that an answer tells, 0 if it is no acceptance
-abbrev pub ifAccepted : Answer → (ℕ → ℕ) → ℕ
-ifAccepted a f = elim a [ accepted k ↦ f k | refused n ↦ 0 | asked w n ↦ 0 | counters m n ↦ 0 | ticked t ↦ 0 ]
-
 -- reported cancelled: the sum of the cancelled counts answered
 abbrev pub cancelled : List Entry → ℕ
-cancelled h = sum (λ e. ifAccepted (e .answer) (λ k. k)) h
-
--- the calls accepted: descriptors, hook events, settings and clearings of the period
-abbrev pub changes : List Entry → ℕ
-changes h = sum (λ e. ifAccepted (e .answer) (λ k. 1)) h
-
--- the serial: their number, held
-abbrev pub serialIn : List Entry → ℕ
-serialIn h = min 4294967295 (changes h)
+cancelled h =
+    sum (λ e. elim (e .answer) [ accepted k ↦ k | refused n ↦ 0 | asked w n ↦ 0 | counters m n ↦ 0 | ticked t ↦ 0 ]) h
 
 -- ticks are numbered from 1: the next one is ticks h + 1
 unfoldable pub ticks : List Entry → ℕ

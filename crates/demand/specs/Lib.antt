@@ -2,6 +2,7 @@
 pub mod Names
 pub mod Calls
 pub mod History
+pub mod Serials
 pub mod Answers
 pub mod Machine
 pub mod Demand

@@ -8,7 +8,7 @@ use lib.Dec.{eqb}
 use Rattle.demand.specs.Names.{Reading}
 use Rattle.demand.specs.Calls.{Call, describe, ask, hook, period, noPeriod, audit, tick}
 use Rattle.demand.specs.Calls.{Answer, accepted, refused, asked, Entry}
-use Rattle.demand.specs.History.{changes, serialIn}
+use Rattle.demand.specs.Serials.{changes, serialIn}
 use Rattle.demand.specs.Answers.{answerAfter}
 use Rattle.demand.specs.Machine.{commit, history}
 
@@ -48,7 +48,7 @@ module _ (D G clock : ℕ) (cs : List Call) where
     pub commits : c .call ≡ commit n d
 
   pub record Tickets : Type 0 where
-    -- asking answers what the descriptor would get, unless the serial is at its top, and the ticket, which is the serial
+    -- asking answers what the descriptor would get, unless the serial is at its top, and the serial as the ticket
     pub asking : (after before : List Entry) (e : Entry) (d : Reading) → h ≡ after ++ (e ∷ before) → e .call ≡ ask d →
         e .answer ≡ asked (unlessTop (serialIn before) (gets before d)) (serialIn before)
     -- committing refuses a ticket that differs from the serial with 16; else it is answered so too
@@ -62,5 +62,6 @@ module _ (D G clock : ℕ) (cs : List Call) where
     pub unchanged : (between : List Entry) (a c : Entry) (d : Reading) (n k : ℕ) → Committed between a c d n →
         a .answer ≡ asked (accepted k) n → changes between ≡ 0 → (j : ℕ) × (c .answer ≡ accepted j)
     -- a call accepted in between makes the ticket a wrong one
-    pub stale : (between : List Entry) (a c : Entry) (d : Reading) (n : ℕ) (would : Answer) → Committed between a c d n →
-        a .answer ≡ asked would n → n < 4294967295 → 1 ≤ changes between → c .answer ≡ refused 16
+    pub stale : (between : List Entry) (a c : Entry) (d : Reading) (n : ℕ) (would : Answer) →
+        Committed between a c d n → a .answer ≡ asked would n → n < 4294967295 → 1 ≤ changes between →
+        c .answer ≡ refused 16
