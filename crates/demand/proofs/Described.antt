@@ -51,7 +51,10 @@ describe-step l none d = ap answered (read-is l d)
 describe-step l (some ticket) d =
     let own = readingCauses (l .spacing) (isEndless (l .state .tariff)) (isRunning (l .state .burst)) d in
     let first = ticketCauses ticket (l .serial) in
-    rw (read-is l d, first-ruled (ruling first) (ruling own) d l, ruling-append first own)
+    ap answered
+    (ap (ifAllowed (ruling first) l) (read-is l d)
+    ∙ first-ruled (ruling first) (ruling own) d l
+    ∙ ap (λ (u : Ruling). describedBy u d l) (sym (ruling-append first own)))
 
 -- a commit that is allowed is allowed without its ticket
 pub allowed-reading : (S : ℕ) (e b : Bool) (serial : ℕ) (k : Option ℕ) (d : Reading) → ruling (causes S e b serial (describe k d)) ≡ Allowed → ruling (readingCauses S e b d) ≡ Allowed
