@@ -1,34 +1,32 @@
 -- The line of a refused configuration begins no pulse in its first 4,294,967,294 ticks, whatever it is told.
 use mathlib.Core.Path.{_≡_, refl}
-use mathlib.Core.Bool.{Bool, true, false, cond, not, _&&_, and-eq-true-iff, and-false}
+use mathlib.Core.Bool.{Bool, true, false, not, and-eq-true-iff, and-false}
 use mathlib.Core.List.{List, [], _∷_}
 use mathlib.Core.Option.{Option}
 use Prim.Native.Nat.{ℕ, zero, suc, _+_, _*_, _≤_, _<_}
 use native.Mathlib.Nat.{div-le-self}
 use native.Mathlib.Omega.{arith}
 use borrow.Author.Tests.{leb-true, lt-leb, not-false}
-use borrow.Table.Steps.{cases}
-use lib.Dec.{leb, ltb}
+use lib.Dec.{leb}
 use lib.ListN.{length}
 use Rattle.answers.specs.Fronts.{isFront}
 use Rattle.tariff.specs.Ranges.{within}
 use Rattle.rules.specs.Rules.{distanceOf, soundEm, soundNumbers, soundPhase, soundPhases}
-use Rattle.tariff.specs.Tariffs.{roomOf, rateOf, isEndless}
+use Rattle.tariff.specs.Tariffs.{rateOf, isEndless}
 use Rattle.steps.specs.Steps.{dueOf, stepOf}
 use Rattle.tariff.specs.declared.Tariff.the-variants.{Idle}
 use Rattle.phase_lists.specs.Lists.{Lists, phasesOf, soundLists}
 use Rattle.phase_lists.specs.Tables.{eightOf}
 use Rattle.descriptor.specs.Refusals.{ruling, soundConfiguration, tariffCauses, burstCauses}
 use Rattle.burst.specs.Bursts.{isRunning, heldMore, agedOf, isDue}
-use Rattle.ticking.specs.Rules.{frontAt}
-use Rattle.ticking.specs.Moves.{sinceFront, movedBy}
+use Rattle.ticking.specs.Moves.{movedBy}
 use Rattle.line.specs.Lines.{blankLine, makeOf, withSerial, askOf, hookOf, periodOf, noPeriodOf, auditOf, answeredBy, tariffChanged, burstChanged, withPeriod, moveOf, tickOf}
 use Rattle.line.specs.declared.Line.{Line}
 use Rattle.grammar.specs.Meaning.{Reading, unreadable, senseless, descriptor}
-use Rattle.demand.specs.Names.{Front, NoFront, TariffFront, BurstFront, Phase, TariffPart, NoTariff, KeepTariff, Rate, Em, Phased, BurstPart, NoBurst, KeepBurst, Start, KeepHook, Stop, Ruling, Allowed, TurnedDown}
-use Rattle.demand.specs.Calls.{Call, describe, ask, hook, period, noPeriod, audit, tick, Answer, ticked, Entry, asks}
-use Rattle.demand.specs.History.{granted, frontOf, sum, ticks}
-use Rattle.demand.specs.Machine.{rulingOf, Outcome, outcome, answered, step, Past, past, noted, afterCalls, entries, history}
+use Rattle.demand.specs.Names.{NoFront, Phase, TariffPart, NoTariff, KeepTariff, Rate, Em, Phased, BurstPart, NoBurst, KeepBurst, Start, KeepHook, Stop, Ruling, Allowed, TurnedDown}
+use Rattle.demand.specs.Calls.{Call, describe, ask, hook, period, noPeriod, audit, tick, Entry}
+use Rattle.demand.specs.History.{frontOf, sum, ticks}
+use Rattle.demand.specs.Machine.{rulingOf, answered, step, Past, past, noted, afterCalls, entries, history}
 use Rattle.phase_lists.proofs.PhaseTables.{phases-length, lists-length}
 use Rattle.descriptor.proofs.Causes.{none-first, none-after}
 use Rattle.demand.proofs.Described.{describedBy, describe-step, allowed-reading, unreadable-refused, senseless-refused}

@@ -8,7 +8,7 @@ use Prim.Native.Nat.{ℕ, _^_, _≤_, _<_}
 use native.Mathlib.Omega.{arith}
 use borrow.Author.Tests.{leb-true, not-false}
 use borrow.Table.Steps.{cases}
-use lib.Dec.{leb, eqb}
+use lib.Dec.{leb}
 use lib.ListN.{length}
 use Rattle.answers.specs.declared.Front.{Front}
 use Rattle.answers.specs.declared.Front.the-variants.{None, Tariff as TariffFront, Burst as BurstFront}
@@ -17,7 +17,7 @@ use Rattle.tariff.specs.Tariffs.{roomOf, isEndless}
 use Rattle.steps.specs.Steps.{stepOf}
 use Rattle.tariff.specs.declared.Phase.{Phase}
 use Rattle.steps.specs.declared.Stepped.{Stepped}
-use Rattle.phase_lists.specs.Lists.{Lists, phasesOf}
+use Rattle.phase_lists.specs.Lists.{phasesOf}
 use Rattle.phase_lists.specs.Tables.{eightOf}
 use Rattle.descriptor.specs.Refusals.{ruling, soundBurst, tariffCauses, burstCauses}
 use Rattle.descriptor.specs.declared.TariffPart.{TariffPart}
@@ -27,7 +27,7 @@ use Rattle.descriptor.specs.declared.BurstPart.the-variants.{None as NoBurst, K
 use Rattle.descriptor.specs.declared.Ruling.{Ruling}
 use Rattle.descriptor.specs.declared.Ruling.the-variants.{Allowed, TurnedDown}
 use Rattle.descriptor.specs.declared.Hook.the-variants.{Keep, Stop}
-use Rattle.burst.specs.Bursts.{noBurst, isRunning, heldMore, olderOf, completesOf, agedOf, isDue, begunOf}
+use Rattle.burst.specs.Bursts.{noBurst, isRunning, heldMore, completesOf, agedOf, isDue}
 use Rattle.burst.specs.declared.Burst.{Burst}
 use Rattle.burst.specs.declared.Aged.{Aged}
 use Rattle.state.specs.Rules.{oneMore, reportDue}

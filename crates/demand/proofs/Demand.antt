@@ -1,5 +1,5 @@
 -- The theorems about every list of calls on a fresh line: each answer is the paper's, and demand 3 holds.
-use mathlib.Core.Path.{_≡_, refl, sym, ap, _∙_}
+use mathlib.Core.Path.{_≡_, refl, _∙_}
 use mathlib.Core.Bool.{Bool, true, false, and-eq-true-iff}
 use mathlib.Core.List.{List, [], _∷_, _++_}
 use mathlib.Core.Logic.{_↔_}
@@ -7,24 +7,19 @@ use Prim.Native.Nat.{ℕ, _+_, _^_, min, _<_}
 use native.Mathlib.Omega.{arith}
 use borrow.Author.Tests.{leb-true}
 use lib.Dec.{leb}
-use Rattle.answers.specs.Fronts.{isFront}
-use Rattle.answers.specs.declared.Front.{Front}
-use Rattle.answers.specs.declared.Front.the-variants.{None, Tariff as TariffFront, Burst as BurstFront}
-use Rattle.answers.specs.declared.Tick.{Tick}
+use Rattle.answers.specs.declared.Front.the-variants.{Tariff as TariffFront}
 use Rattle.tariff.specs.Ranges.{within}
 use Rattle.tariff.specs.declared.Slot.{Slot}
 use Rattle.tariff.specs.declared.Slot.the-variants.{None as NoSlot, Empty, Pulse}
 use Rattle.slots.specs.Slots.{slotAt}
 use Rattle.descriptor.specs.Refusals.{ruling, soundConfiguration}
 use Rattle.descriptor.specs.declared.Ruling.the-variants.{Allowed, TurnedDown}
-use Rattle.descriptor.specs.declared.TariffPart.{TariffPart}
-use Rattle.descriptor.specs.declared.TariffPart.the-variants.{None as NoTariff, Keep as KeepTariff, Rate, Em, Phased}
 use Rattle.descriptor.specs.declared.Hook.the-variants.{Stop}
 use Rattle.ticking.specs.Rules.{frontAt}
-use Rattle.line.specs.Lines.{freshLine, makeOf, onOf}
+use Rattle.line.specs.Lines.{freshLine, makeOf}
 use Rattle.line.specs.declared.Line.{Line}
-use Rattle.demand.specs.Calls.{Call, hook, audit, Answer, accepted, counters, ticked, Entry, asks}
-use Rattle.demand.specs.History.{unlessRefused, granted, told, frontOf, ticks, running, owed, frontsSinceEm, sinceReport}
+use Rattle.demand.specs.Calls.{Call, hook, audit, Answer, accepted, counters, Entry, asks}
+use Rattle.demand.specs.History.{unlessRefused, told, ticks, running, owed, frontsSinceEm, sinceReport}
 use Rattle.demand.specs.Answers.{answerAfter}
 use Rattle.demand.specs.Machine.{entryFor, Outcome, outcome, step, Past, past, noted, afterCall, afterCalls, entries, lineAfter, history}
 use Rattle.demand.specs.Demand.{EndAnswers, Follows, Demand3}

@@ -6,7 +6,6 @@ use Prim.Native.Nat.{ℕ, suc, _+_, _-_, _*_, _%_, _^_, min, _≤_}
 use native.Mathlib.Omega.{arith}
 use borrow.Author.Tests.{leb-false, eqb-false, ne-eqb, lt-ltb}
 use lib.Dec.{leb, ltb, eqb}
-use lib.ListN.{length}
 use Rattle.answers.specs.declared.Front.{Front}
 use Rattle.answers.specs.declared.Front.the-variants.{None, Tariff as TariffFront, Burst as BurstFront}
 use Rattle.tariff.specs.Tariffs.{roomOf, isEndless}
@@ -14,11 +13,8 @@ use Rattle.steps.specs.Steps.{stepOf}
 use Rattle.tariff.specs.declared.Slot.{Slot}
 use Rattle.tariff.specs.declared.Slot.the-variants.{None as NoSlot, Empty, Pulse}
 use Rattle.steps.specs.declared.Stepped.{Stepped}
-use Rattle.phase_lists.specs.Lists.{Lists, phasesOf}
-use Rattle.phase_lists.specs.Tables.{eightOf}
 use Rattle.descriptor.specs.declared.Ruling.{Ruling}
 use Rattle.descriptor.specs.declared.Ruling.the-variants.{Allowed, TurnedDown}
-use Rattle.descriptor.specs.declared.TariffPart.{TariffPart}
 use Rattle.descriptor.specs.declared.TariffPart.the-variants.{None as NoTariff, Keep as KeepTariff, Rate, Em, Phased}
 use Rattle.descriptor.specs.declared.BurstPart.{BurstPart}
 use Rattle.descriptor.specs.declared.BurstPart.the-variants.{None as NoBurst, Keep as KeepBurst, Start}
@@ -26,10 +22,9 @@ use Rattle.descriptor.specs.declared.Hook.the-variants.{Keep, Stop}
 use Rattle.burst.specs.Bursts.{burstWith, isRunning, heldMore, completesOf, agedOf, isDue}
 use Rattle.burst.specs.declared.Aged.{Aged}
 use Rattle.state.specs.States.{countBy}
-use Rattle.descriptor.specs.Cancelled.{cancelledBy}
 use Rattle.ticking.specs.Rules.{frontAt}
 use Rattle.ticking.specs.Moves.{sinceFront, burstAfter, movedBy}
-use Rattle.line.specs.Lines.{askOf, hookOf, periodOf, noPeriodOf, auditOf, tickOf, onOf, answeredBy, tariffChanged, burstChanged, withState, withPeriod}
+use Rattle.line.specs.Lines.{askOf, hookOf, periodOf, noPeriodOf, auditOf, tickOf, answeredBy, tariffChanged, burstChanged, withState, withPeriod}
 use Rattle.line.specs.declared.Line.{Line}
 use Rattle.line.specs.declared.Ticked.{Ticked}
 use Rattle.grammar.specs.Meaning.{Reading, unreadable, senseless, descriptor}

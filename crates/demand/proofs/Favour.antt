@@ -1,22 +1,21 @@
 -- A descriptor that a line would accept is one that it would accept after a call that is not accepted, a tick say.
-use mathlib.Core.Path.{_≡_, refl, sym, _∙_}
-use mathlib.Core.Bool.{Bool, true, false, cond, not, true≢false}
+use mathlib.Core.Path.{_≡_, refl, sym}
+use mathlib.Core.Bool.{Bool, true, false, not, true≢false}
 use mathlib.Core.List.{List, [], _∷_, _++_}
-use mathlib.Core.Option.{Option, none}
+use mathlib.Core.Option.{none}
 use Prim.Native.Nat.{ℕ}
 use native.Mathlib.Omega.{arith}
 use borrow.Table.Steps.{cases}
-use lib.Dec.{leb, ltb}
-use Rattle.tariff.specs.Tariffs.{roomOf, isEndless}
+use lib.Dec.{ltb}
+use Rattle.tariff.specs.Tariffs.{isEndless}
 use Rattle.tariff.specs.declared.Tariff.{Tariff}
 use Rattle.tariff.specs.declared.Tariff.the-variants.{Idle, Endless, Counted, Phased as PhasedRuns, Ending}
 use Rattle.steps.specs.Steps.{dueOf, stepOf}
 use Rattle.phase_lists.specs.Lists.{Lists}
 use Rattle.descriptor.specs.Refusals.{Cause, cause, ruling, descriptorCauses, tariffCauses, soundBurst}
 use Rattle.descriptor.specs.declared.Refusal.the-variants.{Burst, BurstRuns}
-use Rattle.burst.specs.Bursts.{isRunning, completesOf, agedOf, isDue, heldMore}
+use Rattle.burst.specs.Bursts.{isRunning, completesOf, agedOf}
 use Rattle.burst.specs.declared.Burst.{Burst as Bursting}
-use Rattle.ticking.specs.Rules.{frontAt}
 use Rattle.ticking.specs.Moves.{burstAfter, movedBy}
 use Rattle.line.specs.Lines.{hookOf, periodOf, noPeriodOf, auditOf, askOf, tickOf, answeredBy}
 use Rattle.line.specs.declared.Line.{Line}

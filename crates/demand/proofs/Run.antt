@@ -5,20 +5,16 @@ use mathlib.Core.List.{List, [], _∷_, _++_}
 use mathlib.Core.Option.{Option, some}
 use Prim.Native.Nat.{ℕ, _+_, _%_, _^_, _<_}
 use native.Mathlib.Omega.{arith}
-use lib.ListN.{length}
 use Rattle.tariff.specs.declared.Tariff.the-variants.{Idle}
 use Rattle.slots.specs.Slots.{nothing, runsEndless}
-use Rattle.phase_lists.specs.Lists.{Lists, phasesOf}
-use Rattle.phase_lists.specs.Tables.{eightOf, noPhases}
+use Rattle.phase_lists.specs.Lists.{phasesOf}
+use Rattle.phase_lists.specs.Tables.{noPhases}
 use Rattle.descriptor.specs.Refusals.{ruling}
 use Rattle.descriptor.specs.declared.Ruling.{Ruling}
 use Rattle.descriptor.specs.declared.Ruling.the-variants.{Allowed, TurnedDown}
-use Rattle.descriptor.specs.declared.TariffPart.{TariffPart}
 use Rattle.descriptor.specs.declared.TariffPart.the-variants.{None as NoTariff}
-use Rattle.descriptor.specs.declared.BurstPart.{BurstPart}
 use Rattle.descriptor.specs.declared.BurstPart.the-variants.{None as NoBurst}
 use Rattle.descriptor.specs.declared.Hook.the-variants.{Keep, Stop}
-use Rattle.burst.specs.Bursts.{noBurst}
 use Rattle.descriptor.specs.Cancelled.{cancelledBy}
 use Rattle.line.specs.Lines.{freshLine, hookOf, periodOf, noPeriodOf, auditOf, askOf, tickOf, onOf, answeredBy, tariffChanged, burstChanged, withPeriod, idleLine}
 use Rattle.line.specs.declared.Line.{Line}

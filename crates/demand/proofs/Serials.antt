@@ -1,12 +1,9 @@
 -- The serial of a line after each call: an accepted call adds 1 to it, held at its top.
 use mathlib.Core.Path.{_≡_, refl, ap}
 use mathlib.Core.List.{List}
-use mathlib.Core.Option.{Option}
 use Prim.Native.Nat.{ℕ, _+_, min}
 use native.Mathlib.Omega.{arith}
-use lib.ListN.{length}
 use Rattle.state.specs.Rules.{oneMore}
-use Rattle.descriptor.specs.Refusals.{ruling}
 use Rattle.line.specs.Lines.{hookOf, periodOf, noPeriodOf, auditOf, askOf, tickOf, answeredBy, tariffChanged, burstChanged}
 use Rattle.line.specs.declared.Line.{Line}
 use Rattle.grammar.specs.Meaning.{Reading, unreadable, senseless, descriptor}
@@ -14,7 +11,7 @@ use Rattle.demand.specs.Names.{Phase, TariffPart, NoTariff, KeepTariff, 
 use Rattle.demand.specs.Calls.{Call, describe, ask, hook, period, noPeriod, audit, tick, Answer, accepted, refused, asked, counters, ticked}
 use Rattle.demand.specs.Serials.{isChange}
 use Rattle.demand.specs.Machine.{rulingOf, Outcome, outcome, answered, step}
-use Rattle.demand.proofs.Described.{changeOf, describedBy, describe-step}
+use Rattle.demand.proofs.Described.{changeOf, describe-step}
 
 abbrev pub serialBy : Answer → ℕ → ℕ
 serialBy a n = elim a [ accepted k ↦ oneMore n | refused m ↦ n | asked w m ↦ n | counters c m ↦ n | ticked t ↦ n ]

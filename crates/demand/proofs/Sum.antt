@@ -7,7 +7,7 @@ use native.Mathlib.Omega.{arith}
 use borrow.Author.Tests.{ltb-true, ltb-false}
 use lib.Dec.{ltb}
 use Rattle.answers.specs.Fronts.{ifBurst, isBurstFront}
-use Rattle.answers.specs.declared.Front.the-variants.{None, Burst as BurstFront}
+use Rattle.answers.specs.declared.Front.the-variants.{None}
 use Rattle.tariff.specs.declared.Slot.{Slot}
 use Rattle.tariff.specs.declared.Slot.the-variants.{None as NoSlot, Empty, Pulse}
 use Rattle.slots.specs.Slots.{slotAt, runsEndless}

@@ -5,25 +5,23 @@ use mathlib.Core.List.{List, [], _∷_, _++_}
 use mathlib.Core.Option.{none, some}
 use Prim.Native.Nat.{ℕ, _+_, _^_, min, _≤_, _<_}
 use native.Mathlib.Omega.{arith}
-use borrow.Author.Tests.{eq-eqb, ne-eqb, eqb-false}
-use borrow.Table.Steps.{cases}
+use borrow.Author.Tests.{eq-eqb, ne-eqb}
 use lib.Dec.{eqb}
 use Rattle.descriptor.specs.Refusals.{ruling, soundConfiguration}
 use Rattle.descriptor.specs.Cancelled.{cancelledBy}
 use Rattle.descriptor.specs.declared.Refusal.the-variants.{Ticket, Serial}
-use Rattle.line.specs.Lines.{askOf}
 use Rattle.line.specs.declared.Line.{Line}
 use Rattle.demand.specs.Names.{Ruling, Allowed, TurnedDown, Reading}
 use Rattle.demand.specs.Calls.{Call, describe, ask, hook, period, noPeriod, audit, tick, Answer, accepted, refused, asked, Entry, asks}
 use Rattle.demand.specs.History.{sum, owed}
 use Rattle.demand.specs.Serials.{isChange, changes, serialIn}
 use Rattle.demand.specs.Answers.{rulingAfter, answerAfter}
-use Rattle.demand.specs.Machine.{step, outcome, history}
-use Rattle.demand.specs.Tickets.{isQuiet, onlyQuiet, unlessTop, Committed, Tickets}
+use Rattle.demand.specs.Machine.{history}
+use Rattle.demand.specs.Tickets.{isQuiet, onlyQuiet, unlessTop, Tickets}
 use Rattle.demand.proofs.Counts.{sum-append}
 use Rattle.demand.proofs.Coupled.{Config}
 use Rattle.demand.proofs.AnswerKinds.{ruledAnswer, ruled}
-use Rattle.demand.proofs.Favour.{Favours, keeps}
+use Rattle.demand.proofs.Favour.{keeps}
 use Rattle.demand.proofs.Run.{Run, more, cut, coupled, serial-is, rulings-agree, answer-right}
 use Rattle.demand.proofs.Demand.{config, run-part}
 

@@ -1,5 +1,5 @@
 -- A descriptor by its table of phases: its ruling and its change of the tariff are those of its lists.
-use mathlib.Core.Path.{_≡_, refl, sym, ap, _∙_}
+use mathlib.Core.Path.{_≡_, refl, ap, _∙_}
 use mathlib.Core.Bool.{Bool, not}
 use mathlib.Core.List.{List}
 use Prim.Native.Nat.{ℕ}
@@ -11,7 +11,7 @@ use Rattle.phase_lists.specs.Lists.{Lists, phasesOf, soundLists, firstPlaces}
 use Rattle.phase_lists.specs.Tables.{eightOf}
 use Rattle.phase_lists.proofs.PhaseTables.{sound-table}
 use Rattle.descriptor.specs.Refusals.{ruling, tariffCauses, burstCauses, descriptorCauses}
-use Rattle.descriptor.specs.Rulings.{tableFor, descriptorRuling}
+use Rattle.descriptor.specs.Rulings.{tableFor}
 use Rattle.descriptor.specs.declared.Ruling.{Ruling}
 use Rattle.descriptor.specs.declared.Ruling.the-variants.{Allowed, TurnedDown}
 use Rattle.descriptor.specs.declared.TariffPart.{TariffPart}
@@ -19,7 +19,7 @@ use Rattle.descriptor.specs.declared.TariffPart.the-variants.{None as NoTariff,
 use Rattle.descriptor.specs.declared.BurstPart.{BurstPart}
 use Rattle.burst.specs.Bursts.{isRunning}
 use Rattle.descriptor.specs.Cancelled.{cancelledBy}
-use Rattle.line.specs.Lines.{tariffChanged, burstChanged, refusing, answeredBy, describedBy, describeOf, readAnswer, describeTextOf}
+use Rattle.line.specs.Lines.{tariffChanged, refusing, answeredBy, describedBy, describeOf, readAnswer, describeTextOf}
 use Rattle.line.specs.declared.Answered.{Answered}
 use Rattle.line.specs.declared.Line.{Line}
 use Rattle.grammar.specs.Meaning.{listsBy, Reading as Meant, unreadable, senseless, descriptor, readingOf}
