@@ -33,6 +33,7 @@ use denote.Exit.{yes}
 use denote.Signature.{plain}
 use denote.Steps.{only, owned, facts, heard, nothing}
 use denote.Struct.Laws as LL
+use denote.Enum.Laws as EL
 use denote.Triple.Statement.{Contract, Triple}
 use denote.Triple.Call.{calls-at}
 use denote.Triple.Entry.{onEntry}
@@ -41,16 +42,17 @@ use denote.Triple.Table.{entered, cited}
 use denote.Triple.Clauses.{ensured, lasts}
 use denote.Triple.Walked.{says, Stays, stay-none, stay-none-slice, walkOf, AllGo, goes-none, goes-none-slice, Walks, ends-at, walked, walk-meets}
 use Rattle.line.specs.declared.Line.{Line}
-use Rattle.group.specs.Groups.{groupOf, rowOf}
-use Rattle.group.specs.declared.Rated.{Rated}
+use Rattle.line.specs.declared.Verdict.{Verdict}
+use Rattle.group.specs.Groups.{verdictOf, rowOf}
 use Rattle.card.specs.declared.groups.Grouped.{Grouped}
 use Rattle.lent.proofs.Answer.{Told}
+use Rattle.group.proofs.Verdicts.{verdict-val, verdict-told}
 use Rattle.card.proofs.Rows.{Lines, lines-mir, lines-vals, lines-val, IsLines, lines-tell, front, back, after-at, room-in, most, front-length, lawful, makes, apart, together as whole-again}
 use Rattle.card.proofs.Handing.{answers}
 use Rattle.card.proofs.Grouping.{Rates, hands}
 use Rattle.line.proofs.Line as L
-use Rattle.group.proofs.Rated as R
-use Rattle.group.proofs.Rated.Laws as R′
+use Rattle.line.proofs.Verdict as R
+use Rattle.line.proofs.Verdict.Laws as R′
 use Rattle.card.proofs.groups.Grouped as G
 use Rattle.card.proofs.groups.Grouped.Laws as G′
 use Rattle.group.proofs.rate.Symbol as rate-def
@@ -72,9 +74,6 @@ use Rattle.card.proofs.groups.rated.Code as code
 abbrev grouped-val : Grouped → Val
 grouped-val = LL.val G.the-type G′.the-laws
 
-abbrev rated-val : Rated → Val
-rated-val = LL.val R.the-type R′.the-laws
-
 abbrev stayed : Stays (self.ended .signature .params) (self.ended .kept)
 stayed = (stay-none (λ _. Lines) yes, (stay-none (λ _. usize) yes, (stay-none-slice (0 ∷ []) tt (plain (λ _. u32)) yes, (stay-none (λ _. u32) yes, tt))))
 
@@ -92,11 +91,11 @@ module _ {M : Type 1} (𝓤 : URA M) (H : Heap 𝓤) (A : Atoms 𝓤) (at-mem : 
   abbrev Both : Contract 𝓤
   Both = tripleOf 𝓤 H A both.signature (both.spec 𝓤 H A at-mem run)
 
-  abbrev both-says : List Line → Rated → Grouped → SProp 𝓤
+  abbrev both-says : List Line → Verdict → Grouped → SProp 𝓤
   both-says ys a r = ensured 𝓤 H A both.ended (both.clauses 𝓤 H A at-mem run) tt (ys, (a, tt)) tt r
 
-  both-has : (ys : List Line) (a : Rated) (r : Grouped) → ent 𝓤 (both-says ys a r) (fact 𝓤 ((r .lines ≡ ys) × (r .rated ≡ a)))
-  both-has ys a r = exE 𝓤 _ (λ ws. snd∗ 𝓤 (sem 𝓤 H A (lasts both.ended tt (ys, (a, tt)) ws)) (fact 𝓤 ((r .lines ≡ ys) × (r .rated ≡ a))))
+  both-has : (ys : List Line) (a : Verdict) (r : Grouped) → ent 𝓤 (both-says ys a r) (fact 𝓤 ((r .lines ≡ ys) × (r .verdict ≡ a)))
+  both-has ys a r = exE 𝓤 _ (λ ws. snd∗ 𝓤 (sem 𝓤 H A (lasts both.ended tt (ys, (a, tt)) ws)) (fact 𝓤 ((r .lines ≡ ys) × (r .verdict ≡ a))))
 
 module _ {M : Type 1} (𝓤 : URA M) (H : Heap 𝓤) (A : Atoms 𝓤) (W : Given 𝓤 H A) (at-mem : Memory → SProp 𝓤) (run : Routine → Fun 𝓤) (κ : Lft) (q : Share) (h : List Line) (n b o : ℕ) (γ : GName) (ps : List ℕ) (P : ℕ)
     (h-is : IsLines h) (fits : n < 2 ^ 64) (room : Room u32 (length ps)) (P-fits : P < 2 ^ 32) where
@@ -126,12 +125,12 @@ module _ {M : Type 1} (𝓤 : URA M) (H : Heap 𝓤) (A : Atoms 𝓤) (W : Given
   abbrev rowAfter : ℕ → List Line
   rowAfter c = rowOf (front c h) ps P ++ back c h
 
-  exits : (r : Grouped) (c : ℕ) → c ≡ m → r .lines ≡ rowAfter c → r .rated ≡ groupOf (front c h) ps P → Is G.the-row r (grouped-val r ∷ [])
+  exits : (r : Grouped) (c : ℕ) → c ≡ m → r .lines ≡ rowAfter c → r .verdict ≡ verdictOf (front c h) ps P → Is G.the-row r (grouped-val r ∷ [])
       → ent 𝓤 (sep 𝓤 (A .lft κ q) (sem 𝓤 H A (ShrSlice (named 0) κ u32 .own (x .1 .1 .0) (at .1 .1 .0)))) (Post (grouped-val r))
   exits r c e l g is =
       qed W (‵ (flft κ q) ∷ shared ∷ []) ∵
       suffices ! _ (ends-at 𝓤 H A self.ended stayed (self.clauses 𝓤 H A at-mem run) W bound (grouped-val r) r (tt, (tt, (tt, (tt, tt)))) (tt, (tt, (tt, (tt, tt))))) $
-      says ! (l ∙ ap rowAfter e, g ∙ ap (λ (k : ℕ). groupOf (front k h) ps P) e) $ nothing ! $ move ! (1 ∷ 0 ∷ []) $ join ! $ frame ! $
+      says ! (l ∙ ap rowAfter e, g ∙ ap (λ (k : ℕ). verdictOf (front k h) ps P) e) $ nothing ! $ move ! (1 ∷ 0 ∷ []) $ join ! $ frame ! $
       nothing ! $ owned ! u32 (Is u32) (uint-makes 𝓤 H A W w32) P _ (refl, P-fits) $ fjoin ! $ move ! (1 ∷ 0 ∷ []) $ fjoin ! $
       owned ! usize (Is usize) (uint-makes 𝓤 H A W w64) n _ (refl, fits) $ fjoin ! $ owned ! Lines (Is Lines) (makes 𝓤 H A W) h (lines-val h ∷ []) h-is $ fjoin ! $
       owned ! G.the-row (Is G.the-row) (LL.makes G.the-type G′.the-plain 𝓤 H A) r _ is $ move ! (1 ∷ 0 ∷ []) $ done !
@@ -143,11 +142,11 @@ module _ {M : Type 1} (𝓤 : URA M) (H : Heap 𝓤) (A : Atoms 𝓤) (W : Given
   goes-within : ent 𝓤 (sem 𝓤 H A (usize .own n (vint w64 n ∷ []))) (Counts 𝓤 H A at-mem run .pre to-within)
   goes-within = qed W (‵ (usize .own n (vint w64 n ∷ [])) ∷ []) ∵ nothing ! $ move ! (1 ∷ 0 ∷ []) $ join ! $ nothing ! $ join ! $ frame ! $ done !
 
-  abbrev to-both : List Line → Rated → Both 𝓤 H A at-mem run .Ghost
-  to-both ys a = ((tt, tt, tt, (ys, (a, tt)), (lines-val ys ∷ [], (rated-val a ∷ [], tt))), tt)
+  abbrev to-both : List Line → Verdict → Both 𝓤 H A at-mem run .Ghost
+  to-both ys a = ((tt, tt, tt, (ys, (a, tt)), (lines-val ys ∷ [], (verdict-val a ∷ [], tt))), tt)
 
-  goes-both : (ys : List Line) (a : Rated) → ent 𝓤 (sep 𝓤 (sem 𝓤 H A (Lines .own ys (lines-val ys ∷ []))) (sem 𝓤 H A (R.the-row .own a (rated-val a ∷ [])))) (Both 𝓤 H A at-mem run .pre (to-both ys a))
-  goes-both ys a = qed W (‵ (Lines .own ys (lines-val ys ∷ [])) ∷ ‵ (R.the-row .own a (rated-val a ∷ [])) ∷ []) ∵
+  goes-both : (ys : List Line) (a : Verdict) → ent 𝓤 (sep 𝓤 (sem 𝓤 H A (Lines .own ys (lines-val ys ∷ []))) (sem 𝓤 H A (R.the-row .own a (verdict-val a ∷ [])))) (Both 𝓤 H A at-mem run .pre (to-both ys a))
+  goes-both ys a = qed W (‵ (Lines .own ys (lines-val ys ∷ [])) ∷ ‵ (R.the-row .own a (verdict-val a ∷ [])) ∷ []) ∵
       nothing ! $ move ! (2 ∷ 0 ∷ []) $ join ! $ move ! (1 ∷ 0 ∷ []) $ join ! $ nothing ! $ join ! $ frame ! $ done !
 
   abbrev slice : Ty
@@ -174,16 +173,16 @@ module _ {M : Type 1} (𝓤 : URA M) (H : Heap 𝓤) (A : Atoms 𝓤) (W : Given
         assigns ! (addr ! (from ! (stop !))) (from ! (stop !)) (init ! 8 refl (tt, tt)) $
         assigns ! (agg ! (and-then ! (load ! (from ! (stop !)) (look ! 8 refl)) (and-then ! (load ! (from ! (stop !)) (look ! 12 refl)) (no-more !)))) (from ! (stop !)) (init ! 6 refl (tt, (tt, (record { fits = room-in c (most n c is-min) .0 }, tt)))) $
         rewrite ! 6 (λ (k : ℕ). ‵ (fat fullShare slice l₉ 0 (sliceVal (l₅, 0) k))) (sym (in-front c is-min)) refl $
-        hands 𝓤 H A at-mem run W κ q l₅ 0 b o γ (front c h) ps P fm knows-rate (subst (Room L.the-row) (sym (in-front c is-min)) (room-in c (most n c is-min))) P-fits (λ i j l. and-then ! (load ! (from ! (stop !)) (look ! 6 refl)) (and-then ! (load ! (from ! (stop !)) (look ! 17 refl)) (and-then ! (load ! (from ! (stop !)) (look ! 15 refl)) (no-more !)))) (λ w a zs a-is zs-is same told.
-        land ! (from ! (stop !)) (init ! 10 refl (LL.lawful R.the-type R′.the-laws 𝓤 H A W .typed a _ (told .1 .0) .0)) $ rewrite ! 10 (λ (u : Val). ‵ (fat fullShare R′.mir l₇ 0 u)) (told .0) refl $
+        hands 𝓤 H A at-mem run W κ q l₅ 0 b o γ (front c h) ps P fm knows-rate (subst (Room L.the-row) (sym (in-front c is-min)) (room-in c (most n c is-min))) P-fits (λ i j l. and-then ! (load ! (from ! (stop !)) (look ! 6 refl)) (and-then ! (load ! (from ! (stop !)) (look ! 17 refl)) (and-then ! (load ! (from ! (stop !)) (look ! 15 refl)) (no-more !)))) (λ w a zs a-is zs-is same a-of.
+        land ! (from ! (stop !)) (init ! 10 refl (EL.lawful R.the-type R′.the-laws 𝓤 H A W tt .typed a _ a-of .0)) $ rewrite ! 10 (λ (u : Val). ‵ (fat fullShare R′.mir l₇ 0 u)) (verdict-told a w a-of .0) refl $
         -- and is whole again: [0 _5; the token; the places' reference; 3 _10; …; 5 _9; …; 7 _8; …; 9 _7; …; 11 _6; …; 13 that _5 dies; 14 _4; …; 16 _3; …; 18 _2; …; 20 _1; …; 22 _0; …]
         move ! (0 ∷ 3 ∷ []) $ use2 W (‵ (fat fullShare lines-mir l₅ 0 (lines-val (zs ++ back c h))) ⊛ ‵ (Lines .own (zs ++ back c h) (lines-val (zs ++ back c h) ∷ []))) (whole-again 𝓤 H A W h zs c l₅ h-is (most n c is-min) (same ∙ in-front c is-min)) $ split ! $
         move ! (1 ∷ []) $ facts ! Lines (Is Lines) (shows 𝓤 H A Lines) (zs ++ back c h) (lines-val (zs ++ back c h) ∷ []) (λ now-is.
         assigns ! (of-opd ! (load ! (from ! (stop !)) (look ! 0 refl))) (from ! (stop !)) (init ! 3 refl (lawful 𝓤 H A W .typed (zs ++ back c h) _ now-is .0)) $
-        owned ! R.the-row (Is R.the-row) (LL.makes R.the-type R′.the-plain 𝓤 H A) a (rated-val a ∷ []) (told .1 .1) $ owned ! Lines (Is Lines) (makes 𝓤 H A W) (zs ++ back c h) (lines-val (zs ++ back c h) ∷ []) now-is $
+        owned ! R.the-row (Is R.the-row) (EL.makes R.the-type R′.the-plain 𝓤 H A) a (verdict-val a ∷ []) (verdict-told a w a-of .1) $ owned ! Lines (Is Lines) (makes 𝓤 H A W) (zs ++ back c h) (lines-val (zs ++ back c h) ∷ []) now-is $
         use2 W (raw (Both 𝓤 H A at-mem run .pre (to-both (zs ++ back c h) a))) (goes-both (zs ++ back c h) a) $
         calls-at ! fm (Both 𝓤 H A at-mem run) knows-both (to-both (zs ++ back c h) a) (and-then ! (load ! (from ! (stop !)) (look ! 4 refl)) (and-then ! (load ! (from ! (stop !)) (look ! 10 refl)) (no-more !))) (λ u.
-        use1 W (later (some (λ (r : Grouped). given (Told G.the-type G′.the-laws r u × ((r .lines ≡ zs ++ back c h) × (r .rated ≡ a))) (‵ ftrue)))) (answers 𝓤 H A W G.the-type G′.the-laws u (λ r. (r .lines ≡ zs ++ back c h) × (r .rated ≡ a)) (both-says 𝓤 H A at-mem run (zs ++ back c h) a) (both-has 𝓤 H A at-mem run (zs ++ back c h) a)) $ await ! tt $ pick ! (λ r. learn ! (λ e. drop ! $
+        use1 W (later (some (λ (r : Grouped). given (Told G.the-type G′.the-laws r u × ((r .lines ≡ zs ++ back c h) × (r .verdict ≡ a))) (‵ ftrue)))) (answers 𝓤 H A W G.the-type G′.the-laws u (λ r. (r .lines ≡ zs ++ back c h) × (r .verdict ≡ a)) (both-says 𝓤 H A at-mem run (zs ++ back c h) a) (both-has 𝓤 H A at-mem run (zs ++ back c h) a)) $ await ! tt $ pick ! (λ r. learn ! (λ e. drop ! $
         land ! (from ! (stop !)) (init ! 22 refl (LL.lawful G.the-type G′.the-laws 𝓤 H A W .typed r _ (e .0 .1 .0) .0)) $ rewrite ! 22 (λ (z : Val). ‵ (fat fullShare G′.mir l₀ 0 z)) (e .0 .0) refl $
         returns ! (look ! 22 refl) $ forget ! 0 refl $ forget ! 3 refl $ forget ! 5 refl $ forget ! 7 refl $ forget ! 9 refl $ forget ! 11 refl $ forget ! 14 refl $ forget ! 16 refl $ forget ! 18 refl $ forget ! 20 refl $ forget ! 22 refl $
         move ! (22 ∷ 23 ∷ []) $ free1 ! $ move ! (20 ∷ 21 ∷ []) $ free1 ! $ move ! (18 ∷ 19 ∷ []) $ free1 ! $ move ! (16 ∷ 17 ∷ []) $ free1 ! $ move ! (14 ∷ 15 ∷ []) $ free1 ! $ move ! (0 ∷ 13 ∷ []) $ free1 ! $

@@ -50,6 +50,7 @@ use Rattle.group.proofs.Passing.{row-length, end-open}
 use Rattle.group.proofs.AskLaws.{asked-row}
 use Rattle.group.proofs.GroupLaws.{asking-asks, asking-open, rating-open, second, verdict-is, row-is}
 use Rattle.group.proofs.Handing.{Passes, hands}
+use Rattle.group.proofs.Verdicts.{verdict-val, IsVerdict}
 use Rattle.line.proofs.Line as L
 use Rattle.line.proofs.Verdict as R
 use Rattle.line.proofs.Verdict.Laws as R′
@@ -76,12 +77,6 @@ pass-val = LL.val S.the-type S′.the-laws
 
 abbrev IsPass : Pass → Type 0
 IsPass s = Is S.the-row s (pass-val s ∷ [])
-
-abbrev verdict-val : Verdict → Val
-verdict-val = EL.val R.the-type R′.the-laws
-
-abbrev IsVerdict : Verdict → Type 0
-IsVerdict v = Is R.the-row v (verdict-val v ∷ [])
 
 verdict-of : (s : Pass) → IsPass s → IsVerdict (s .verdict)
 verdict-of s is = LL.owed S.the-type S′.the-laws s _ is .1 .1 .1 .0
