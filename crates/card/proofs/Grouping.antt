@@ -32,12 +32,10 @@ use denote.Triple.Call.{calls-at}
 use denote.Triple.Spec.{tripleOf}
 use denote.Triple.Clauses.{ensured, lasts}
 use Rattle.line.specs.declared.Line.{Line}
-use Rattle.group.specs.Groups.{groupOf, rowOf}
-use Rattle.group.specs.declared.Rated.{Rated}
-use Rattle.lent.proofs.Answer.{Told, told}
+use Rattle.line.specs.declared.Verdict.{Verdict}
+use Rattle.group.specs.Groups.{verdictOf, rowOf}
 use Rattle.line.proofs.Line as L
-use Rattle.group.proofs.Rated as R
-use Rattle.group.proofs.Rated.Laws as R′
+use Rattle.line.proofs.Verdict as R
 use Rattle.group.proofs.rate as rate
 
 module _ {M : Type 1} (𝓤 : URA M) (H : Heap 𝓤) (A : Atoms 𝓤) (at-mem : Memory → SProp 𝓤) (run : Routine → Fun 𝓤) where
@@ -75,7 +73,7 @@ module _ {M : Type 1} (𝓤 : URA M) (H : Heap 𝓤) (A : Atoms 𝓤) (at-mem : 
     pub hands : {Γ : List (Item 𝓤)} {E : Env 𝓤 H} {C : Calls 𝓤 H} {Λ : Loops 𝓤 H} {q : Post 𝓤 H} {f : Name} {xs : List Operand} {d : Place} {rest : Code} → FmC 𝓤 H (W .laws) C → Triple 𝓤 (C f) Rates
         → Room L.the-row (length ys) → c < 2 ^ 32
         → ((i j l : Item 𝓤) → Opds (Go {0}) W (i ∷ j ∷ l ∷ Γ) E xs (sl ∷ pl ∷ vint w32 c ∷ []))
-        → ((v : Val) (r : Rated) (zs : List Line) → r ≡ groupOf ys ps c → zs ≡ rowOf ys ps c → length zs ≡ length ys → Told R.the-type R′.the-laws r v → Sq W (‵ (cells (mem L.the-row) zs b o) ∷ ‵ (flft κ₁ q₁) ∷ shared ∷ Γ) (lands C Λ E d v rest q))
+        → ((v : Val) (r : Verdict) (zs : List Line) → r ≡ verdictOf ys ps c → zs ≡ rowOf ys ps c → length zs ≡ length ys → Is R.the-row r (v ∷ []) → Sq W (‵ (cells (mem L.the-row) zs b o) ∷ ‵ (flft κ₁ q₁) ∷ shared ∷ Γ) (lands C Λ E d v rest q))
         → Sq W (‵ (cells (mem L.the-row) ys b o) ∷ ‵ (flft κ₁ q₁) ∷ shared ∷ Γ) (runs C Λ E (seq (call f xs d) rest) q)
     hands fm known room fits os k =
         lft-new ! tt (λ ν. move ! (1 ∷ []) $
@@ -84,11 +82,11 @@ module _ {M : Type 1} (𝓤 : URA M) (H : Heap 𝓤) (A : Atoms 𝓤) (at-mem : 
         move ! (4 ∷ []) $ use1 W (shared ⊛ shared) (shr-slice-copy 𝓤 H A W (named 1) κ₁ u32 .twice places (pl ∷ [])) $ split ! $ move ! (2 ∷ 0 ∷ []) $ join ! $
         move ! (3 ∷ 4 ∷ 0 ∷ []) $ use3 W (raw (Rates .pre (to-rate ν δ))) (goes ν δ fits) $
         calls-at ! fm Rates known (to-rate ν δ) (os _ _ _) (λ v.
-        use1 W (later (some (λ (r : Rated). ((‵ (flft (ν ∷ []) fullShare) ⊛ (‵ (flft κ₁ q₁) ⊛ ‵ ftrue)) ⊛ ‵ (R.the-row .own r (v ∷ []))) ⊛ raw (ensured 𝓤 H A rate.ended (rate.clauses 𝓤 H A at-mem run) (ν ∷ [], (κ₁, tt)) (lent δ, (places, (c, tt))) tt r)))) (id⊢ 𝓤 _) $ await ! tt $ pick ! (λ r.
-        split ! $ move ! (1 ∷ []) $ use1 W (some (λ (zs : List Line × (Unit {0} × (Unit {0} × Unit {0}))). ‵ (lasts rate.ended (ν ∷ [], (κ₁, tt)) (lent δ, (places, (c, tt))) zs) ⊛ raw (fact 𝓤 ((r ≡ groupOf ys ps c) × (zs .0 ≡ rowOf ys ps c))))) (id⊢ 𝓤 _) $ pick ! (λ zs.
-        split ! $ move ! (1 ∷ []) $ heard ! ((r ≡ groupOf ys ps c) × (zs .0 ≡ rowOf ys ps c)) (λ e. fsplit ! $ fsplit ! $
+        use1 W (later (some (λ (r : Verdict). ((‵ (flft (ν ∷ []) fullShare) ⊛ (‵ (flft κ₁ q₁) ⊛ ‵ ftrue)) ⊛ ‵ (R.the-row .own r (v ∷ []))) ⊛ raw (ensured 𝓤 H A rate.ended (rate.clauses 𝓤 H A at-mem run) (ν ∷ [], (κ₁, tt)) (lent δ, (places, (c, tt))) tt r)))) (id⊢ 𝓤 _) $ await ! tt $ pick ! (λ r.
+        split ! $ move ! (1 ∷ []) $ use1 W (some (λ (zs : List Line × (Unit {0} × (Unit {0} × Unit {0}))). ‵ (lasts rate.ended (ν ∷ [], (κ₁, tt)) (lent δ, (places, (c, tt))) zs) ⊛ raw (fact 𝓤 ((r ≡ verdictOf ys ps c) × (zs .0 ≡ rowOf ys ps c))))) (id⊢ 𝓤 _) $ pick ! (λ zs.
+        split ! $ move ! (1 ∷ []) $ heard ! ((r ≡ verdictOf ys ps c) × (zs .0 ≡ rowOf ys ps c)) (λ e. fsplit ! $ fsplit ! $
         -- [the last list; its length; the other parameters'; the tokens and the result; the reference kept; the lender's part]
         move ! (3 ∷ []) $ split ! $ move ! (1 ∷ []) $ facts ! R.the-row (Is R.the-row) (shows 𝓤 H A R.the-row) r (v ∷ []) (λ r-is. split ! $ lft-end ! tt $
         move ! (0 ∷ 6 ∷ 2 ∷ []) $ use3 W (later (‵ (Arr (mem L.the-row) (length ys) .lies (zs .0) b o))) (slice-back 𝓤 H A W L.the-row (ν ∷ []) δ (zs .0) (length ys) b o) $ await ! tt $
         fsplit ! $ feqL ! (λ same. move ! (1 ∷ []) $ split ! $ move ! (1 ∷ 3 ∷ 4 ∷ []) $ drop ! $ drop ! $ drop ! $ move ! (1 ∷ 0 ∷ []) $
-        k v r (zs .0) (e .0) (e .1) same (told R.the-type R′.the-laws r r v refl r-is)))))))))
+        k v r (zs .0) (e .0) (e .1) same r-is))))))))

@@ -156,8 +156,7 @@ impl Card {
         let held = self.lines;
         let after = groups::rate(held, self.count, text, interval);
         let lines = after.lines;
-        let rated = after.rated;
-        let verdict = rated.verdict;
+        let verdict = after.verdict;
         let card = Card { lines, ..self };
         card.with_answer(answer_of(verdict), out)
     }

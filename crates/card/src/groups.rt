@@ -3,27 +3,27 @@ ghost use mathlib.Core.Path.{_≡_};
 ghost use mathlib.Core.List.{_++_};
 ghost use Prim.Native.Nat.{min, _≤_};
 ghost use lib.ListN.{take, drop};
-ghost use Rattle.group.specs.Groups.{groupOf, rowOf};
+ghost use Rattle.group.specs.Groups.{verdictOf, rowOf};
 use super::ticks::within;
-use group::Rated;
 use line::Line;
+use line::Verdict;
 
 // The lines after a group's rate, and what it is answered.
 pub struct Grouped {
     pub lines: [Line; 65],
-    pub rated: Rated,
+    pub verdict: Verdict,
 }
 
 // Lines and an answer, together.
-fn together(lines: [Line; 65], rated: Rated) -> Grouped
-    ensures { λ r. ⌜ (r .lines ≡ lines) × (r .rated ≡ rated) ⌝ }
+fn together(lines: [Line; 65], verdict: Verdict) -> Grouped
+    ensures { λ r. ⌜ (r .lines ≡ lines) × (r .verdict ≡ verdict) ⌝ }
 {
-    Grouped { lines, rated }
+    Grouped { lines, verdict }
 }
 
 // A rate command for the lines at these places of the first n.
 pub(crate) fn rated(lines: [Line; 65], n: usize, places: &[u32], interval: u32) -> Grouped
-    ensures { λ r. ⌜ (r .lines ≡ rowOf (take (min n 65) lines) (now (places .entry)) interval ++ drop (min n 65) lines) × (r .rated ≡ groupOf (take (min n 65) lines) (now (places .entry)) interval) ⌝ }
+    ensures { λ r. ⌜ (r .lines ≡ rowOf (take (min n 65) lines) (now (places .entry)) interval ++ drop (min n 65) lines) × (r .verdict ≡ verdictOf (take (min n 65) lines) (now (places .entry)) interval) ⌝ }
 {
     let mut held = lines;
     let count = within(n);

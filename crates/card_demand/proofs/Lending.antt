@@ -15,7 +15,7 @@ use Rattle.line.specs.declared.Verdict.{Verdict}
 use Rattle.line.specs.declared.Verdict.the-variants.{Accepted, Refused}
 use Rattle.dispatcher.specs.Dispatch.{gathered, gatherAll, wrongRow, tickedRow, toldRow, dispatchOf}
 use Rattle.dispatcher.specs.declared.Waiting.{Waiting}
-use Rattle.group.specs.Groups.{rateOf, named, verdictOf, ratedRow, groupOf, rowOf as ratedBy}
+use Rattle.group.specs.Groups.{rateOf, named, verdictOf, ratedRow, rowOf as ratedBy}
 use Rattle.demand.specs.Calls.{Call, tick}
 use Rattle.demand.specs.Machine.{step, Past, past, afterCalls, entries, lineAfter}
 use Rattle.card_demand.specs.Card.{onLine, tickRow, group, Card, callsAt, rate, rowAfter, toldIn, cardStep}
@@ -112,7 +112,7 @@ module _ (P : ℕ) where
       rw (one-rated (f 0) l) (ap (λ (ks : List Line). cond (f 0) (rateOf l P .line) l ∷ ks) (lines-rated m (λ i. f (suc i)) (λ i e. let o = inside (suc i) e in omega arith) ls))
 
 group-step : (k : Card) (m : ℕ) (ps : List ℕ) (P : ℕ) (v : Verdict) → verdictOf (take m (k .lines)) ps P ≡ v → cardStep k (group m ps P) ≡ groupStep k m ps P
-unfolding groupOf ratedBy
+unfolding ratedBy
 group-step k m ps P (Refused r) e = rw (e, take-append-drop m (k .lines))
 group-step k m ps P (Accepted n) e =
     let c = clear (take m (k .lines)) ps P (n, e) in

@@ -13,7 +13,7 @@ use Rattle.line.specs.declared.Verdict.the-variants.{Accepted, Refused}
 use Rattle.dispatcher.specs.Dispatch.{wrongRow, rowOf, dispatchOf}
 use Rattle.dispatcher.specs.declared.Reply.{Reply}
 use Rattle.dispatcher.specs.declared.Reply.the-variants.{Sends, Refuses}
-use Rattle.group.specs.Groups.{ifAccepted, groupOf, rowOf as ratedBy}
+use Rattle.group.specs.Groups.{ifAccepted, verdictOf, rowOf as ratedBy}
 use Rattle.demand.specs.Calls.{Call, tick, Entry}
 use Rattle.demand.specs.Machine.{Past, past, afterCall, entries, lineAfter}
 use Rattle.card_demand.specs.Card.{onLine, tickRow, group, CardReply, done, sends, refuses, cardEntry}
@@ -57,7 +57,7 @@ abbrev pub groupStep : Card → ℕ → List ℕ → ℕ → Stepped
 groupStep k m ps P =
     let row = take m (k .lines) in
     let others = drop m (k .lines) in
-    let v = groupOf row ps P .verdict in
+    let v = verdictOf row ps P in
     record {
       entry =
           cardEntry (group m ps P) (groupReply v)

@@ -5,3 +5,4 @@ pub mod AskLaws
 pub mod RateLaws
 pub mod GroupLaws
 pub mod Handing
+pub mod Verdicts

@@ -3,10 +3,10 @@ use mathlib.Core.Path.{_≡_, refl, sym, ap, subst, _∙_}
 use mathlib.Core.Bool.{Bool, true, false, cond, _||_, or-false, or-assoc}
 use mathlib.Mathlib.Data.Bool.Basic.{or-eq-false-eq-eq-false-and-eq-false as or-none}
 use mathlib.Core.List.{List, [], _∷_}
-use Prim.Native.Nat.{ℕ, zero, suc, _+_, _≤_, _<_}
+use Prim.Native.Nat.{ℕ, zero, suc, _≤_, _<_}
 use native.Mathlib.Nat.{not-suc-le-zero, le-of-suc-le-suc}
 use native.Mathlib.Omega.{arith}
-use borrow.Author.Tests.{lt-ltb, leb-false, eqb-true, eqb-false, ne-eqb}
+use borrow.Author.Tests.{lt-ltb, leb-false, eqb-true}
 use lib.Dec.{leb, ltb, eqb, eqb·zero-suc, eqb·suc-zero, eqb·suc-suc}
 use lib.ListN.{length, getD, set}
 use lib.Seq.{set-getD}
@@ -28,11 +28,10 @@ use Rattle.line.specs.declared.Answered.{Answered}
 use Rattle.line.specs.declared.Verdict.{Verdict}
 use Rattle.line.specs.declared.Verdict.the-variants.{Accepted, Refused}
 use Rattle.line.proofs.Described.{describe-is}
-use Rattle.group.specs.Groups.{rateOf, named, outside, orElse, firstRefusal, ratedRow, numberOf}
-use Rattle.group.specs.Passes.{isMarked, askedOf, ruledAnswer, countedOf, passed, stepOf, placeIn, lineAt, withPassed, stepAt, rowAt, answerOf, endOf, rowBy}
+use Rattle.group.specs.Groups.{rateOf, named, outside, orElse, firstRefusal, ratedRow}
+use Rattle.group.specs.Passes.{isMarked, askedOf, ruledAnswer, markedOf, passed, stepOf, placeIn, lineAt, withPassed, stepAt, rowAt, endOf, rowBy}
 use Rattle.group.specs.declared.Pass.{Pass}
 use Rattle.group.specs.declared.Passed.{Passed}
-use Rattle.group.specs.declared.Rated.{Rated}
 use Rattle.group.proofs.MarkLaws.{marked-with}
 
 -- ---- one line
@@ -92,38 +91,6 @@ rated-set f P (k ∷ ls) (suc p) l e =
     (ap (λ (zs : List Line). cond (f 0) (rateOf k P .line) k ∷ zs)
     (rated-set (λ i. f (suc i)) P ls p (le-of-suc-le-suc l) e ∙ ap (λ (g : ℕ → Bool). ratedRow g P ls) (λ x i. f (suc i) || sym (eqb·suc-suc i p) x)))
 
--- ---- the number of lines
-number-past : (f : ℕ → Bool) (n p : ℕ) → n ≤ p → numberOf (λ i. f i || eqb i p) n ≡ numberOf f n
-unfolding numberOf
-number-past f zero p l = refl
-number-past f (suc n) p l = rw (ne-eqb n p (λ e. omega arith), number-past f n p (omega arith), or-false (f n))
-
-number-more : (f : ℕ → Bool) (n p : ℕ) → p < n → f p ≡ false → numberOf (λ i. f i || eqb i p) n ≡ numberOf f n + 1
-unfolding numberOf
-number-more f zero p l e = absurd (not-suc-le-zero l)
-number-more f (suc n) p l e = by (eqb n p) refl (λ h. number-more f n p h e)
-  where
-    here : n ≡ p → f n ≡ false
-    here q = ap f q ∙ e
-
-    by : (b : Bool) → eqb n p ≡ b → (p < n → numberOf (λ i. f i || eqb i p) n ≡ numberOf f n + 1) →
-        cond (f n || eqb n p) (numberOf (λ i. f i || eqb i p) n + 1) (numberOf (λ i. f i || eqb i p) n) ≡ cond (f n) (numberOf f n + 1) (numberOf f n) + 1
-    by true q ih = let s = eqb-true n p q in rw (q, here s, number-past f n p (omega arith))
-    by false q ih = let d = eqb-false n p q in rw (q, ih (omega (arith, d)), or-false (f n)) (cases (f n))
-      where
-        cases : (a : Bool) → cond a (numberOf f n + 1 + 1) (numberOf f n + 1) ≡ cond a (numberOf f n + 1) (numberOf f n) + 1
-        cases true = refl
-        cases false = refl
-
-number-most : (f : ℕ → Bool) (n : ℕ) → numberOf f n ≤ n
-unfolding numberOf
-number-most f zero = omega arith
-number-most f (suc n) = by (f n) (number-most f n)
-  where
-    by : (b : Bool) → numberOf f n ≤ n → cond b (numberOf f n + 1) (numberOf f n) ≤ suc n
-    by true h = omega arith
-    by false h = omega arith
-
 -- ---- the list
 pub else-accepted : (u v : Verdict) (k : ℕ) → orElse u v ≡ Accepted k → ((j : ℕ) × (u ≡ Accepted j)) × (v ≡ Accepted k)
 else-accepted (Accepted j) v k e = ((j, refl), e)
@@ -142,7 +109,7 @@ unfolding stepOf
 marked-step s n p S k t l e h = rw (l, e, h)
 
 fresh-step : (s : Pass) (n p S k : ℕ) (t : State) → ltb p n ≡ true → s .rates ≡ true → isMarked (s .marks) p ≡ false →
-    stepOf s n p S k t ≡ passed (countedOf s p) (oneMore k) (withRate t (s .interval))
+    stepOf s n p S k t ≡ passed (markedOf s p) (oneMore k) (withRate t (s .interval))
 unfolding stepOf
 fresh-step s n p S k t l e h = rw (l, e, h)
 
@@ -152,26 +119,23 @@ module _ (ls : List Line) (most : length ls ≤ 64) where
 
   -- the pass ends with the lines rated at whose places g holds, and no others
   abbrev pub Ends : Pass → List Line → List ℕ → (ℕ → Bool) → Type 0
-  Ends s row ps g =
-      (rowBy n s row ps ≡ ratedRow g (s .interval) ls) × (answerOf (endOf n s row ps) ≡ record { verdict = s .verdict; lines = numberOf g n })
+  Ends s row ps g = (rowBy n s row ps ≡ ratedRow g (s .interval) ls) × (endOf n s row ps .verdict ≡ s .verdict)
 
   -- the lines rated so far are those at whose places f holds, and these are marked
   pub record Marks (s : Pass) (f : ℕ → Bool) : Type 0 where
     pub rates : s .rates ≡ true
     pub marks : (i : ℕ) → i < n → isMarked (s .marks) i ≡ f i
-    pub lines : s .lines ≡ numberOf f n
 
-  more-marks : (s : Pass) (f : ℕ → Bool) (p : ℕ) → Marks s f → p < n → f p ≡ false → Marks (countedOf s p) (λ i. f i || eqb i p)
-  more-marks s f p m l e = record {
+  more-marks : (s : Pass) (f : ℕ → Bool) (p : ℕ) → Marks s f → p < n → Marks (markedOf s p) (λ i. f i || eqb i p)
+  more-marks s f p m l = record {
     rates = m .rates;
     marks = λ i h. marked-with (s .marks) p i (omega (arith, most)) (omega (arith, most)) ∙ ap (λ (b : Bool). b || eqb i p) (m .marks i h);
-    lines = rw (m .lines, number-more f n p l e) (omega (arith, most, number-most f n));
   }
 
   -- a place of the list
-  turn : (s s′ : Pass) (row row′ ks : List Line) (r : Rated) (p : ℕ) (ps : List ℕ) → 0 < s .limit → stepAt n s row p .pass ≡ s′ → rowAt n s row p ≡ row′ →
-      (rowBy n s′ row′ ps ≡ ks) × (answerOf (endOf n s′ row′ ps) ≡ r) → (rowBy n s row (p ∷ ps) ≡ ks) × (answerOf (endOf n s row (p ∷ ps)) ≡ r)
-  turn s s′ row row′ ks r p ps l e f h = let z = lt-ltb 0 (s .limit) l in (rw (z, e, f) (h .0), rw (z, e, f) (h .1))
+  turn : (s s′ : Pass) (row row′ ks : List Line) (v : Verdict) (p : ℕ) (ps : List ℕ) → 0 < s .limit → stepAt n s row p .pass ≡ s′ → rowAt n s row p ≡ row′ →
+      (rowBy n s′ row′ ps ≡ ks) × (endOf n s′ row′ ps .verdict ≡ v) → (rowBy n s row (p ∷ ps) ≡ ks) × (endOf n s row (p ∷ ps) .verdict ≡ v)
+  turn s s′ row row′ ks v p ps l e f h = let z = lt-ltb 0 (s .limit) l in (rw (z, e, f) (h .0), rw (z, e, f) (h .1))
 
   module _ (s : Pass) (f : ℕ → Bool) (m : Marks s f) (p : ℕ) (l : p < n) where
     abbrev row : List Line
@@ -188,7 +152,7 @@ module _ (ls : List Line) (most : length ls ≤ 64) where
     again-row e = ap (λ (r : Passed). set row (placeIn p n) (withPassed there r)) (again e) ∙ set-getD row (placeIn p n) blankLine
 
     -- one that is not
-    once : f p ≡ false → stepOf s n p (there .spacing) (there .serial) (there .state) ≡ passed (countedOf s p) (oneMore (there .serial)) (withRate (there .state) (s .interval))
+    once : f p ≡ false → stepOf s n p (there .spacing) (there .serial) (there .state) ≡ passed (markedOf s p) (oneMore (there .serial)) (withRate (there .state) (s .interval))
     once e = fresh-step s n p (there .spacing) (there .serial) (there .state) (lt-ltb p n l) (m .rates) (m .marks p l ∙ e)
 
     once-row : f p ≡ false → (j : ℕ) → rateOf (lineAt ls p) (s .interval) .verdict ≡ Accepted j → rowAt n s row p ≡ ratedRow (λ i. f i || eqb i p) (s .interval) ls
@@ -199,25 +163,25 @@ module _ (ls : List Line) (most : length ls ≤ 64) where
   pub rated-end : (ps : List ℕ) (s : Pass) (f : ℕ → Bool) → Marks s f → length ps ≤ s .limit → outside ps n ≡ false → (k : ℕ) →
       firstRefusal (λ p. rateOf (lineAt ls p) (s .interval) .verdict) ps ≡ Accepted k → Ends s (ratedRow f (s .interval) ls) ps (λ i. f i || named ps i)
   unfolding named outside firstRefusal
-  rated-end [] s f m lim out k acc = subst (Ends s (ratedRow f (s .interval) ls) []) (λ x i. sym (or-false (f i)) x) (refl, rw (m .lines))
+  rated-end [] s f m lim out k acc = subst (Ends s (ratedRow f (s .interval) ls) []) (λ x i. sym (or-false (f i)) x) (refl, refl)
   rated-end (p ∷ ps) s f m lim out k acc =
       let ins = or-none (leb n p) (outside ps n) .0 out in
       let l = leb-false n p (ins .0) in
       let all = else-accepted (rateOf (lineAt ls p) (s .interval) .verdict) (firstRefusal (λ p. rateOf (lineAt ls p) (s .interval) .verdict) ps) k acc in
       by l (all .0 .1)
       (rated-end ps s f m (omega arith) (ins .1) k (all .1))
-      (λ e. rated-end ps (countedOf s p) (λ i. f i || eqb i p) (more-marks s f p m l e) (omega arith) (ins .1) k (all .1))
+      (rated-end ps (markedOf s p) (λ i. f i || eqb i p) (more-marks s f p m l) (omega arith) (ins .1) k (all .1))
       (f p) refl
     where
       row₀ : List Line
       row₀ = ratedRow f (s .interval) ls
 
       by : (l : p < n) {j : ℕ} → rateOf (lineAt ls p) (s .interval) .verdict ≡ Accepted j → Ends s row₀ ps (λ i. f i || named ps i) →
-          (f p ≡ false → Ends (countedOf s p) (ratedRow (λ i. f i || eqb i p) (s .interval) ls) ps (λ i. (f i || eqb i p) || named ps i)) →
+          Ends (markedOf s p) (ratedRow (λ i. f i || eqb i p) (s .interval) ls) ps (λ i. (f i || eqb i p) || named ps i) →
           (b : Bool) → f p ≡ b → Ends s row₀ (p ∷ ps) (λ i. f i || (eqb i p || named ps i))
       by l acc same more true e =
           turn s s row₀ row₀ _ _ p ps (omega arith) (ap (λ (r : Passed). r .pass) (again s f m p l e)) (again-row s f m p l e)
           (subst (Ends s row₀ ps) (λ x i. or-known f p e (named ps i) i x) same)
       by l {j} acc same more false e =
-          turn s (countedOf s p) row₀ (ratedRow (λ i. f i || eqb i p) (s .interval) ls) _ _ p ps (omega arith) (ap (λ (r : Passed). r .pass) (once s f m p l e)) (once-row s f m p l e j acc)
-          (subst (Ends (countedOf s p) (ratedRow (λ i. f i || eqb i p) (s .interval) ls) ps) (λ x i. or-assoc (f i) (eqb i p) (named ps i) x) (more e))
+          turn s (markedOf s p) row₀ (ratedRow (λ i. f i || eqb i p) (s .interval) ls) _ _ p ps (omega arith) (ap (λ (r : Passed). r .pass) (once s f m p l e)) (once-row s f m p l e j acc)
+          (subst (Ends (markedOf s p) (ratedRow (λ i. f i || eqb i p) (s .interval) ls) ps) (λ x i. or-assoc (f i) (eqb i p) (named ps i) x) more)

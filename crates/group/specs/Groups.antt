@@ -1,7 +1,7 @@
 -- A rate command for a group of lines in a row: taken by all of them or by none.
 use mathlib.Core.Bool.{Bool, false, cond, _||_}
 use mathlib.Core.List.{List, [], _∷_}
-use Prim.Native.Nat.{ℕ, zero, suc, _+_}
+use Prim.Native.Nat.{ℕ, suc}
 use lib.Dec.{leb, eqb}
 use lib.ListN.{length, getD}
 use Rattle.phase_lists.specs.Lists.{noLists}
@@ -14,7 +14,6 @@ use Rattle.line.specs.declared.Answered.{Answered}
 use Rattle.line.specs.declared.Verdict.{Verdict}
 use Rattle.line.specs.declared.Verdict.the-variants.{Accepted, Refused}
 use Rattle.dispatcher.specs.Dispatch.{badRow}
-use Rattle.group.specs.declared.Rated.{Rated}
 
 -- a rate command, burst keep, on one line: its answer, and the line after it
 abbrev pub rateOf : Line → ℕ → Answered
@@ -44,7 +43,7 @@ firstRefusal f (p ∷ ps) = orElse (f p) (firstRefusal f ps)
 
 -- ---- the group
 
--- 14 for the row, then 15 for a place, and then the refusal of a line
+-- the answer: 14 for the row, then 15 for a place, and then the refusal of a line
 unfoldable pub verdictOf : List Line → List ℕ → ℕ → Verdict
 verdictOf ls ps P =
     cond (badRow (length ls)) (Refused Row)
@@ -55,21 +54,10 @@ unfoldable pub ratedRow : (ℕ → Bool) → ℕ → List Line → List Line
 ratedRow f P [] = []
 ratedRow f P (l ∷ ls) = cond (f 0) (rateOf l P .line) l ∷ ratedRow (λ i. f (suc i)) P ls
 
--- at how many of n places f holds
-unfoldable pub numberOf : (ℕ → Bool) → ℕ → ℕ
-numberOf f zero = 0
-numberOf f (suc n) = cond (f n) (numberOf f n + 1) (numberOf f n)
-
 abbrev pub ifAccepted : {A : Type 0} → Verdict → A → A → A
 ifAccepted (Accepted k) a b = a
 ifAccepted (Refused r) a b = b
 
--- the answer, with the number of lines that took it
-unfoldable pub groupOf : List Line → List ℕ → ℕ → Rated
-groupOf ls ps P =
-    let v = verdictOf ls ps P in
-    record { verdict = v; lines = ifAccepted v (numberOf (named ps) (length ls)) 0 }
-
--- and the row: a refused group leaves it as it was
+-- the row after it: a refused group leaves it as it was
 unfoldable pub rowOf : List Line → List ℕ → ℕ → List Line
 rowOf ls ps P = ifAccepted (verdictOf ls ps P) (ratedRow (named ps) P ls) ls

@@ -28,7 +28,6 @@ use Rattle.dispatcher.specs.Dispatch.{badRow}
 use Rattle.group.specs.Groups.{orElse, ifAccepted}
 use Rattle.group.specs.declared.Pass.{Pass}
 use Rattle.group.specs.declared.Passed.{Passed}
-use Rattle.group.specs.declared.Rated.{Rated}
 
 -- ---- places marked in a word, a bit each
 
@@ -50,27 +49,27 @@ askedOf S s P = ruledAnswer (descriptorRuling S (isEndless (s .tariff)) (isRunni
 
 -- ---- a pass
 
-abbrev pub passOf : ℕ → ℕ → Bool → Verdict → ℕ → ℕ → Pass
-passOf P limit rates v marks lines =
-    record { interval = P; limit = limit; rates = rates; verdict = v; marks = marks; lines = lines }
+abbrev pub passOf : ℕ → ℕ → Bool → Verdict → ℕ → Pass
+passOf P limit rates v marks =
+    record { interval = P; limit = limit; rates = rates; verdict = v; marks = marks }
 
 -- the group is refused, whatever its lines answer: no place is left
 abbrev pub refusedOf : Pass → Refusal → Pass
-refusedOf s why = passOf (s .interval) 0 (s .rates) (Refused why) (s .marks) (s .lines)
+refusedOf s why = passOf (s .interval) 0 (s .rates) (Refused why) (s .marks)
 
 -- the first pass, over m places
 abbrev pub firstOf : ℕ → ℕ → Pass
-firstOf m P = passOf P m false (Accepted 0) 0 0
+firstOf m P = passOf P m false (Accepted 0) 0
 
 -- and in a row of n
 abbrev pub askingOf : ℕ → ℕ → ℕ → Pass
 askingOf n m P = cond (badRow n) (refusedOf (firstOf m P) Row) (firstOf m P)
 
 abbrev pub withLimit : Pass → ℕ → Pass
-withLimit s limit = passOf (s .interval) limit (s .rates) (s .verdict) (s .marks) (s .lines)
+withLimit s limit = passOf (s .interval) limit (s .rates) (s .verdict) (s .marks)
 
 abbrev pub thatRates : Pass → Pass
-thatRates s = passOf (s .interval) (s .limit) true (s .verdict) (s .marks) (s .lines)
+thatRates s = passOf (s .interval) (s .limit) true (s .verdict) (s .marks)
 
 -- the second pass, after the first
 abbrev pub ratingOf : Pass → Pass
@@ -78,12 +77,11 @@ ratingOf s = ifAccepted (s .verdict) (thatRates s) (withLimit s 0)
 
 -- a line has answered
 abbrev pub heardOf : Pass → Verdict → Pass
-heardOf s v = passOf (s .interval) (s .limit) (s .rates) (orElse (s .verdict) v) (s .marks) (s .lines)
+heardOf s v = passOf (s .interval) (s .limit) (s .rates) (orElse (s .verdict) v) (s .marks)
 
 -- the line at place p is rated
-abbrev pub countedOf : Pass → ℕ → Pass
-countedOf s p =
-    passOf (s .interval) (s .limit) (s .rates) (s .verdict) (withMark (s .marks) p) (oneMore (s .lines))
+abbrev pub markedOf : Pass → ℕ → Pass
+markedOf s p = passOf (s .interval) (s .limit) (s .rates) (s .verdict) (withMark (s .marks) p)
 
 abbrev pub passed : Pass → ℕ → State → Passed
 passed s serial t = record { pass = s; serial = serial; state = t }
@@ -94,11 +92,8 @@ stepOf s n p S serial t =
     cond (ltb p n)
     (cond (s .rates)
     (cond (isMarked (s .marks) p) (passed s serial t)
-    (passed (countedOf s p) (oneMore serial) (withRate t (s .interval))))
+    (passed (markedOf s p) (oneMore serial) (withRate t (s .interval))))
     (passed (heardOf s (askedOf S t (s .interval))) serial t)) (passed (refusedOf s Place) serial t)
-
-abbrev pub answerOf : Pass → Rated
-answerOf s = record { verdict = s .verdict; lines = s .lines }
 
 -- ---- the places of a list
 

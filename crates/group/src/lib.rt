@@ -8,12 +8,6 @@ use line::Verdict;
 pub use rating::rate;
 use state::State;
 
-// What a group's rate is answered, and how many lines took it.
-pub struct Rated {
-    pub verdict: Verdict,
-    pub lines: u32,
-}
-
 // A pass over the places of a list, which asks the line at each, or rates it if its place is not marked yet. `limit` is
 // the number of places: none of them once the group is refused.
 pub(crate) struct Pass {
@@ -22,7 +16,6 @@ pub(crate) struct Pass {
     pub rates: bool,
     pub verdict: Verdict,
     pub marks: u64,
-    pub lines: u32,
 }
 
 // The pass after a place, and the serial and the state of the line there.

@@ -1,10 +1,9 @@
 // One place of a pass: what becomes of the pass and of the line there.
 ghost use mathlib.Core.Path.{_≡_};
 ghost use lib.Dec.{ltb};
-ghost use Rattle.group.specs.Passes.{askingOf, ratingOf, refusedOf, heardOf, countedOf, stepOf, answerOf};
+ghost use Rattle.group.specs.Passes.{askingOf, ratingOf, refusedOf, heardOf, markedOf, stepOf};
 use super::Pass;
 use super::Passed;
-use super::Rated;
 use super::asking::asked;
 use super::asking::or_else;
 use super::marks::is_marked;
@@ -31,7 +30,6 @@ impl Pass {
             rates: false,
             verdict: Verdict::Accepted(0),
             marks: 0,
-            lines: 0,
         };
         if (n == 0) | (64 < n) {
             return first.refused(Refusal::Row);
@@ -76,12 +74,11 @@ impl Pass {
     }
 
     // The line at a place is rated.
-    fn counted(self, place: u32) -> Pass
-        ensures { λ r. ⌜ r ≡ countedOf self place ⌝ }
+    fn marked(self, place: u32) -> Pass
+        ensures { λ r. ⌜ r ≡ markedOf self place ⌝ }
     {
         Pass {
             marks: with_mark(self.marks, place),
-            lines: state::one_more(self.lines),
             ..self
         }
     }
@@ -120,20 +117,9 @@ impl Pass {
         }
         let next = state::one_more(serial);
         Passed {
-            pass: self.counted(place),
+            pass: self.marked(place),
             serial: next,
             state: state.rated(self.interval),
-        }
-    }
-
-    // What the group is answered after the second pass.
-    pub(crate) fn answer(self) -> Rated
-        ensures { λ r. ⌜ r ≡ answerOf self ⌝ }
-    {
-        let verdict = self.verdict;
-        Rated {
-            verdict,
-            lines: self.lines,
         }
     }
 }

@@ -1,12 +1,12 @@
 // A rate command for a group: all lines are asked, and then all are rated, or none.
 ghost use mathlib.Core.Path.{_≡_};
 ghost use lib.ListN.{length};
-ghost use Rattle.group.specs.Groups.{groupOf, rowOf};
+ghost use Rattle.group.specs.Groups.{verdictOf, rowOf};
 ghost use Rattle.group.specs.Passes.{Open, placeIn, endOf, rowBy};
 use super::Pass;
-use super::Rated;
 use super::passes::is_inside;
 use line::Line;
+use line::Verdict;
 
 // The place p in a row of n, or place 0 where p is outside it.
 fn place_in(p: u32, n: usize) -> usize
@@ -39,12 +39,12 @@ pub(crate) fn pass_over(row: &mut [Line], places: &[u32], start: Pass) -> Pass
 
 // Gives the rate command, burst keep, to the lines at the places of a list, each of them once, if all of them accept it.
 // Where the group is refused the row stays as it is.
-pub fn rate(row: &mut [Line], places: &[u32], interval: u32) -> Rated
-    ensures { λ r. ⌜ (r ≡ groupOf (now (row .entry)) (now (places .entry)) interval) × (now (row .exit) ≡ rowOf (now (row .entry)) (now (places .entry)) interval) ⌝ }
+pub fn rate(row: &mut [Line], places: &[u32], interval: u32) -> Verdict
+    ensures { λ r. ⌜ (r ≡ verdictOf (now (row .entry)) (now (places .entry)) interval) × (now (row .exit) ≡ rowOf (now (row .entry)) (now (places .entry)) interval) ⌝ }
 {
     let asking = Pass::asking(row.len(), places.len(), interval);
     let asked = pass_over(row, places, asking);
     let rating = asked.rating();
     let rated = pass_over(row, places, rating);
-    rated.answer()
+    rated.verdict
 }

@@ -10,12 +10,12 @@ use prog.Model.{Model}
 use contract.Monad.{fact-mono}
 use contract.Running.{GhostRules, Running}
 use Rattle.line.specs.declared.Line.{Line}
+use Rattle.line.specs.declared.Verdict.{Verdict}
 use Rattle.dispatcher.specs.Dispatch.{rowOf, dispatchOf}
 use Rattle.dispatcher.specs.declared.Dispatcher.{Dispatcher}
 use Rattle.dispatcher.specs.declared.Dispatched.{Dispatched}
 use Rattle.dispatcher.proofs.Dispatcher as D
-use Rattle.group.specs.Groups.{groupOf, rowOf as ratedBy}
-use Rattle.group.specs.declared.Rated.{Rated}
+use Rattle.group.specs.Groups.{verdictOf, rowOf as ratedBy}
 use Rattle.group.proofs.rate as G
 use Rattle.card_demand.specs.Card.{tickRow, group, Stepped, cardStep}
 use Rattle.card_demand.specs.Lending.{replied, groupReply}
@@ -34,9 +34,9 @@ tick-step d row row′ others r e f =
     (ap (λ (s : Stepped). s .entry .reply) steps ∙ rw (first, e), ap (λ (s : Stepped). s .card) steps ∙ rw (first, rest, e, f))
 
 -- a group's rate by its answer and the row that it leaves
-group-step : (d : Dispatcher) (row row′ others : List Line) (ps : List ℕ) (P : ℕ) (r : Rated) → r ≡ groupOf row ps P → row′ ≡ ratedBy row ps P →
+group-step : (d : Dispatcher) (row row′ others : List Line) (ps : List ℕ) (P : ℕ) (r : Verdict) → r ≡ verdictOf row ps P → row′ ≡ ratedBy row ps P →
     let s = cardStep (cardOf (row ++ others) d) (group (length row) ps P) in
-    (s .entry .reply ≡ groupReply (r .verdict)) × (s .card ≡ cardOf (row′ ++ others) d)
+    (s .entry .reply ≡ groupReply r) × (s .card ≡ cardOf (row′ ++ others) d)
 group-step d row row′ others ps P r e f =
     let steps = card-steps .groups (cardOf (row ++ others) d) (length row) ps P in
     let first = take-append-seam row others in

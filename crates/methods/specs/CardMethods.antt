@@ -33,4 +33,4 @@ module _ {M : Type 1} (𝓤 : URA M) (H : Heap 𝓤) (𝓜 : Model 𝓤 H) (𝓖
     pub groups : Does 𝓤 H 𝓜 𝓖 𝓡 G.ended G.Symbol.routine
         (λ _ (row, (places, (P, _))) r (row′, _). (others : List Line) (d : Dispatcher) →
         let s = cardStep (cardOf (now row ++ others) d) (group (length (now row)) (now places) P) in
-        (s .entry .reply ≡ groupReply (r .verdict)) × (s .card ≡ cardOf (now row′ ++ others) d))
+        (s .entry .reply ≡ groupReply r) × (s .card ≡ cardOf (now row′ ++ others) d))

@@ -45,8 +45,8 @@ returns-3 c =
 one-more-requires : tie.Need-one-more-requires
 one-more-requires c κs = search needs
 
-counted-requires : tie.Need-counted-requires
-counted-requires c κs = search needs
+marked-requires : tie.Need-marked-requires
+marked-requires c κs = search needs
 
 rated-requires : tie.Need-rated-requires
 rated-requires c κs = search needs
@@ -60,7 +60,7 @@ returns-4 c =
     let i = r .before .before in
     rw (
       c .rated .ensures,
-      c .before .counted .ensures,
+      c .before .marked .ensures,
       ← c .before .before .one-more .ensures,
       holds (i .before .is-inside .ensures) (i .if1 .left),
       not-false (i .before .before .args .self .rates) (r .if2 .left),
@@ -81,6 +81,6 @@ step-spec =
     is-marked-requires
     returns-3
     one-more-requires
-    counted-requires
+    marked-requires
     rated-requires
     returns-4)

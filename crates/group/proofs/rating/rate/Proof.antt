@@ -33,6 +33,7 @@ use denote.Exit.{yes}
 use denote.Signature.{plain}
 use denote.Steps.{owned, nothing}
 use denote.Struct.Laws as LL
+use denote.Enum.Laws as EL
 use denote.Triple.Statement.{Contract, Triple}
 use denote.Triple.Call.{calls-at}
 use denote.Triple.Entry.{onEntry}
@@ -41,19 +42,20 @@ use denote.Triple.Table.{entered, cited}
 use denote.Triple.Clauses.{ensured, lasts}
 use denote.Triple.Walked.{says, Stays, stay-slice, stay-none-slice, stay-none, walkOf, AllGo, goes-slice, goes-none-slice, goes-none, Walks, ends-at, walked, walk-meets}
 use Rattle.line.specs.declared.Line.{Line}
-use Rattle.group.specs.Passes.{askingOf, ratingOf, answerOf, endOf, rowBy}
+use Rattle.line.specs.declared.Verdict.{Verdict}
+use Rattle.group.specs.Passes.{askingOf, ratingOf, endOf, rowBy}
 use Rattle.group.specs.declared.Pass.{Pass}
-use Rattle.group.specs.declared.Rated.{Rated}
 use Rattle.lent.proofs.Answer.{Told, answers}
 use Rattle.group.proofs.Passing.{row-length, end-open}
 use Rattle.group.proofs.AskLaws.{asked-row}
-use Rattle.group.proofs.GroupLaws.{asking-asks, asking-open, rating-open, second, group-is, row-is}
+use Rattle.group.proofs.GroupLaws.{asking-asks, asking-open, rating-open, second, verdict-is, row-is}
 use Rattle.group.proofs.Handing.{Passes, hands}
+use Rattle.group.proofs.Verdicts.{verdict-val, IsVerdict}
 use Rattle.line.proofs.Line as L
+use Rattle.line.proofs.Verdict as R
+use Rattle.line.proofs.Verdict.Laws as R′
 use Rattle.group.proofs.Pass as S
 use Rattle.group.proofs.Pass.Laws as S′
-use Rattle.group.proofs.Rated as R
-use Rattle.group.proofs.Rated.Laws as R′
 use Rattle.group.proofs.Pass.asking as asking
 use Rattle.group.proofs.Pass.asking.Symbol as asking-def
 use Rattle.group.proofs.Pass.asking.Symbol.{name as #asking}
@@ -62,10 +64,6 @@ use Rattle.group.proofs.Pass.rating as rating
 use Rattle.group.proofs.Pass.rating.Symbol as rating-def
 use Rattle.group.proofs.Pass.rating.Symbol.{name as #rating}
 use Rattle.group.proofs.Pass.rating.Met as rating-thm
-use Rattle.group.proofs.Pass.answer as answering
-use Rattle.group.proofs.Pass.answer.Symbol as answering-def
-use Rattle.group.proofs.Pass.answer.Symbol.{name as #answer}
-use Rattle.group.proofs.Pass.answer.Met as answering-thm
 use Rattle.group.proofs.rating.pass_over.Symbol as over-def
 use Rattle.group.proofs.rating.pass_over.Symbol.{name as #pass-over}
 use Rattle.group.proofs.rating.pass_over.Met as over-thm
@@ -80,6 +78,9 @@ pass-val = LL.val S.the-type S′.the-laws
 abbrev IsPass : Pass → Type 0
 IsPass s = Is S.the-row s (pass-val s ∷ [])
 
+verdict-of : (s : Pass) → IsPass s → IsVerdict (s .verdict)
+verdict-of s is = LL.owed S.the-type S′.the-laws s _ is .1 .1 .1 .0
+
 abbrev stayed : Stays (self.ended .signature .params) (self.ended .kept)
 stayed = (stay-slice (0 ∷ []) tt (plain (λ _. L.the-row)), (stay-none-slice (1 ∷ []) tt (plain (λ _. u32)) yes, (stay-none (λ _. u32) yes, tt)))
 
@@ -90,9 +91,6 @@ module _ {M : Type 1} (𝓤 : URA M) (H : Heap 𝓤) (A : Atoms 𝓤) (at-mem : 
 
   abbrev Rates : Contract 𝓤
   Rates = tripleOf 𝓤 H A rating.signature (rating.spec 𝓤 H A at-mem run)
-
-  abbrev Answers : Contract 𝓤
-  Answers = tripleOf 𝓤 H A answering.signature (answering.spec 𝓤 H A at-mem run)
 
   abbrev asks-says : ℕ → ℕ → ℕ → Pass → SProp 𝓤
   asks-says n m c r = ensured 𝓤 H A asking.ended (asking.clauses 𝓤 H A at-mem run) tt (n, (m, (c, tt))) tt r
@@ -105,12 +103,6 @@ module _ {M : Type 1} (𝓤 : URA M) (H : Heap 𝓤) (A : Atoms 𝓤) (at-mem : 
 
   rates-is : (s r : Pass) → ent 𝓤 (rates-says s r) (fact 𝓤 (r ≡ ratingOf s))
   rates-is s r = exE 𝓤 _ (λ ws. snd∗ 𝓤 (sem 𝓤 H A (lasts rating.ended tt (s, tt) ws)) (fact 𝓤 (r ≡ ratingOf s)))
-
-  abbrev answer-says : Pass → Rated → SProp 𝓤
-  answer-says s r = ensured 𝓤 H A answering.ended (answering.clauses 𝓤 H A at-mem run) tt (s, tt) tt r
-
-  answer-is : (s : Pass) (r : Rated) → ent 𝓤 (answer-says s r) (fact 𝓤 (r ≡ answerOf s))
-  answer-is s r = exE 𝓤 _ (λ ws. snd∗ 𝓤 (sem 𝓤 H A (lasts answering.ended tt (s, tt) ws)) (fact 𝓤 (r ≡ answerOf s)))
 
 module _ {M : Type 1} (𝓤 : URA M) (H : Heap 𝓤) (A : Atoms 𝓤) (W : Given 𝓤 H A) (at-mem : Memory → SProp 𝓤) (run : Routine → Fun 𝓤) (κ κ₁ : Lft) (q q₁ : Share) (b o : ℕ) (γ : GName) (ys : List Line) (b₁ o₁ : ℕ) (γ₁ : GName) (ps : List ℕ) (c : ℕ)
     (room : Room L.the-row (length ys)) (room₁ : Room u32 (length ps)) (c-fits : c < 2 ^ 32) where
@@ -160,21 +152,18 @@ module _ {M : Type 1} (𝓤 : URA M) (H : Heap 𝓤) (A : Atoms 𝓤) (W : Given
   abbrev Z : List Line
   Z = rowBy n s₂ ys ps
 
-  abbrev answer : Rated
-  answer = answerOf s₃
+  abbrev answer : Verdict
+  answer = s₃ .verdict
 
-  abbrev answer-val : Val
-  answer-val = LL.val R.the-type R′.the-laws answer
-
-  exits : Is R.the-row answer (answer-val ∷ [])
-      → ent 𝓤 (sep 𝓤 (A .obs γ (codedHoleys L.the-row .code (heres L.the-row Z))) (sep 𝓤 (A .bor κ (Held L.the-row (length Z) b o γ)) (sep 𝓤 (A .lft κ q) (sep 𝓤 (A .lft κ₁ q₁) (sem 𝓤 H A (ShrSlice (named 1) κ₁ u32 .own (x .1 .0) (at .1 .0))))))) (Post answer-val)
+  exits : IsVerdict answer
+      → ent 𝓤 (sep 𝓤 (A .obs γ (codedHoleys L.the-row .code (heres L.the-row Z))) (sep 𝓤 (A .bor κ (Held L.the-row (length Z) b o γ)) (sep 𝓤 (A .lft κ q) (sep 𝓤 (A .lft κ₁ q₁) (sem 𝓤 H A (ShrSlice (named 1) κ₁ u32 .own (x .1 .0) (at .1 .0))))))) (Post (verdict-val answer))
   exits is =
       qed W (‵ (fobs γ (codedHoleys L.the-row .code (heres L.the-row Z))) ∷ ‵ (fbor κ (Held L.the-row (length Z) b o γ)) ∷ ‵ (flft κ q) ∷ ‵ (flft κ₁ q₁) ∷ kept ∷ []) ∵
-      suffices ! _ (ends-at 𝓤 H A self.ended stayed (self.clauses 𝓤 H A at-mem run) W bound answer-val answer (Z, (tt, (tt, tt))) (len, (tt, (tt, tt)))) $
-      says ! (group-is ys ps c, row-is ys ps c) $ nothing ! $ move ! (4 ∷ 0 ∷ []) $ join ! $ move ! (3 ∷ 0 ∷ []) $ join ! $
+      suffices ! _ (ends-at 𝓤 H A self.ended stayed (self.clauses 𝓤 H A at-mem run) W bound (verdict-val answer) answer (Z, (tt, (tt, tt))) (len, (tt, (tt, tt)))) $
+      says ! (verdict-is ys ps c, row-is ys ps c) $ nothing ! $ move ! (4 ∷ 0 ∷ []) $ join ! $ move ! (3 ∷ 0 ∷ []) $ join ! $
       frame ! $ fjoin ! $ pureI ! (at-slice L.the-row (record { ptr = (b, o); name = γ; now = Z }) (at .0)) (tt, (tt, tt)) (ap (λ (k : ℕ). sliceVal (b, o) k ∷ []) (sym len), subst (Room L.the-row) (sym len) room) $ fjoin ! $
       move ! (1 ∷ []) $ nothing ! $ owned ! u32 (Is u32) (uint-makes 𝓤 H A W w32) c _ (refl, c-fits) $ fjoin ! $ move ! (1 ∷ 0 ∷ []) $ fjoin ! $ move ! (1 ∷ 0 ∷ []) $ fjoin ! $
-      owned ! R.the-row (Is R.the-row) (LL.makes R.the-type R′.the-plain 𝓤 H A) answer _ is $ move ! (1 ∷ 0 ∷ []) $ done !
+      owned ! R.the-row (Is R.the-row) (EL.makes R.the-type R′.the-plain 𝓤 H A) answer _ is $ move ! (1 ∷ 0 ∷ []) $ done !
     where
       len : length Z ≡ n
       len = row-length n s₂ ys ps
@@ -193,13 +182,7 @@ module _ {M : Type 1} (𝓤 : URA M) (H : Heap 𝓤) (A : Atoms 𝓤) (W : Given
   goes-rates : ent 𝓤 (sem 𝓤 H A (S.the-row .own s₁ (pass-val s₁ ∷ []))) (Rates 𝓤 H A at-mem run .pre to-rates)
   goes-rates = qed W (‵ (S.the-row .own s₁ (pass-val s₁ ∷ [])) ∷ []) ∵ nothing ! $ move ! (1 ∷ 0 ∷ []) $ join ! $ nothing ! $ join ! $ frame ! $ done !
 
-  abbrev to-answer : Answers 𝓤 H A at-mem run .Ghost
-  to-answer = ((tt, tt, tt, (s₃, tt), (pass-val s₃ ∷ [], tt)), tt)
-
-  goes-answer : ent 𝓤 (sem 𝓤 H A (S.the-row .own s₃ (pass-val s₃ ∷ []))) (Answers 𝓤 H A at-mem run .pre to-answer)
-  goes-answer = qed W (‵ (S.the-row .own s₃ (pass-val s₃ ∷ [])) ∷ []) ∵ nothing ! $ move ! (1 ∷ 0 ∷ []) $ join ! $ nothing ! $ join ! $ frame ! $ done !
-
-  module _ (C : Calls 𝓤 H) (Λ : Loops 𝓤 H) (fm : FmC 𝓤 H (W .laws) C) (knows-asks : Triple 𝓤 (C #asking) (Asks 𝓤 H A at-mem run)) (knows-rates : Triple 𝓤 (C #rating) (Rates 𝓤 H A at-mem run)) (knows-over : Triple 𝓤 (C #pass-over) (Passes 𝓤 H A at-mem run)) (knows-answer : Triple 𝓤 (C #answer) (Answers 𝓤 H A at-mem run)) where
+  module _ (C : Calls 𝓤 H) (Λ : Loops 𝓤 H) (fm : FmC 𝓤 H (W .laws) C) (knows-asks : Triple 𝓤 (C #asking) (Asks 𝓤 H A at-mem run)) (knows-rates : Triple 𝓤 (C #rating) (Rates 𝓤 H A at-mem run)) (knows-over : Triple 𝓤 (C #pass-over) (Passes 𝓤 H A at-mem run)) where
     walk : ent 𝓤 (onEntry 𝓤 H A self.signature (κ, (κ₁, tt)) (q, (q₁, tt)) x at) (WpFn 𝓤 H C Λ code.function (sl ∷ pl ∷ vint w32 c ∷ []) Post)
     walk =
         qed W ((‵ (flft κ q) ⊛ (‵ (flft κ₁ q₁) ⊛ ‵ ftrue)) ∷ ‵ (owns (MutSlice (named 0) κ L.the-row ∷ ShrSlice (named 1) κ₁ u32 ∷ u32 ∷ []) x at) ∷ []) ∵
@@ -232,32 +215,29 @@ module _ {M : Type 1} (𝓤 : URA M) (H : Heap 𝓤) (A : Atoms 𝓤) (W : Given
         assigns ! (agg ! (and-then ! (load ! (from ! (stop !)) (look ! 8 refl)) (and-then ! (load ! (from ! (fld ! refl (stop !))) (look-in ! 30 (sub ! 1 refl (whole !)))) (no-more !)))) (from ! (stop !)) (init ! 6 refl (tt, (tt, (record { fits = room .0 }, tt)))) $
         hands 𝓤 H A at-mem run W κ₁ q₁ b o b₁ o₁ γ₁ ys ps s₂ fm knows-over room (rating-open n m s₁ (end-open n m s₀ ys ps (asking-open n m c))) (k₂ .1 .1) (λ i j l. and-then ! (load ! (from ! (stop !)) (look ! 6 refl)) (and-then ! (load ! (from ! (stop !)) (look ! 28 refl)) (and-then ! (load ! (from ! (stop !)) (look ! 20 refl)) (no-more !)))) (λ v₃ k₃.
         land ! (from ! (stop !)) (init ! 18 refl (LL.lawful S.the-type S′.the-laws 𝓤 H A W .typed s₃ _ (k₃ .1 .0) .0)) $ rewrite ! 18 (λ (u : Val). ‵ (fat fullShare S′.mir l₇ 0 u)) (k₃ .0) refl $
-        owned ! S.the-row (Is S.the-row) (LL.makes S.the-type S′.the-plain 𝓤 H A) s₃ (pass-val s₃ ∷ []) (k₃ .1 .1) $ use1 W (raw (Answers 𝓤 H A at-mem run .pre to-answer)) goes-answer $
-        calls-at ! fm (Answers 𝓤 H A at-mem run) knows-answer to-answer (and-then ! (load ! (from ! (stop !)) (look ! 19 refl)) (no-more !)) (λ v₄.
-        use1 W (later (given (Told R.the-type R′.the-laws answer v₄) (‵ ftrue))) (answers 𝓤 H A W R.the-type R′.the-laws answer v₄ (answer-says 𝓤 H A at-mem run s₃) (answer-is 𝓤 H A at-mem run s₃)) $ await ! tt $ learn ! (λ k₄. drop ! $
-        land ! (from ! (stop !)) (init ! 32 refl (LL.lawful R.the-type R′.the-laws 𝓤 H A W .typed answer _ (k₄ .1 .0) .0)) $ rewrite ! 32 (λ (u : Val). ‵ (fat fullShare R′.mir l₀ 0 u)) (k₄ .0) refl $
+        assigns ! (of-opd ! (load ! (from ! (fld ! refl (stop !))) (look-in ! 18 (sub ! 3 refl (whole !))))) (from ! (stop !)) (init ! 32 refl (EL.lawful R.the-type R′.the-laws 𝓤 H A W tt .typed answer _ (verdict-of s₃ (k₃ .1 .1)) .0)) $
         -- the borrow is closed at the row as it is: [0 obs; the borrow; its token; the places' token; the places' reference; 5 _13; …; local i at 31 - 2 i; …]
         move ! (0 ∷ 3 ∷ 4 ∷ 5 ∷ []) $ closes-slice ! tt L.the-row ys Z (row-length n s₂ ys ps) b o $
         returns ! (look ! 31 refl) $ forget ! 5 refl $ forget ! 7 refl $ forget ! 9 refl $ forget ! 11 refl $ forget ! 13 refl $ forget ! 15 refl $ forget ! 17 refl $ forget ! 19 refl $ forget ! 21 refl $ forget ! 23 refl $ forget ! 25 refl $ forget ! 27 refl $ forget ! 29 refl $ forget ! 31 refl $
         move ! (31 ∷ 32 ∷ []) $ free1 ! $ move ! (29 ∷ 30 ∷ []) $ free1 ! $ move ! (27 ∷ 28 ∷ []) $ free1 ! $ move ! (25 ∷ 26 ∷ []) $ free1 ! $ move ! (23 ∷ 24 ∷ []) $ free1 ! $ move ! (21 ∷ 22 ∷ []) $ free1 ! $ move ! (19 ∷ 20 ∷ []) $ free1 ! $
         move ! (17 ∷ 18 ∷ []) $ free1 ! $ move ! (15 ∷ 16 ∷ []) $ free1 ! $ move ! (13 ∷ 14 ∷ []) $ free1 ! $ move ! (11 ∷ 12 ∷ []) $ free1 ! $ move ! (9 ∷ 10 ∷ []) $ free1 ! $ move ! (7 ∷ 8 ∷ []) $ free1 ! $ move ! (5 ∷ 6 ∷ []) $ free1 ! $ free0 ! $
-        by ! (exits (k₄ .1 .1))))))))))))))))))))))))
+        by ! (exits (verdict-of s₃ (k₃ .1 .1)))))))))))))))))))))))
 
 module _ {M : Type 1} (𝓤 : URA M) (H : Heap 𝓤) (A : Atoms 𝓤) (W : Given 𝓤 H A) (at-mem : Memory → SProp 𝓤) (run : Routine → Fun 𝓤) where
-  self-walks : (C : Calls 𝓤 H) (Λ : Loops 𝓤 H) → FmC 𝓤 H (W .laws) C → Triple 𝓤 (C #asking) (Asks 𝓤 H A at-mem run) → Triple 𝓤 (C #rating) (Rates 𝓤 H A at-mem run) → Triple 𝓤 (C #pass-over) (Passes 𝓤 H A at-mem run) → Triple 𝓤 (C #answer) (Answers 𝓤 H A at-mem run)
+  self-walks : (C : Calls 𝓤 H) (Λ : Loops 𝓤 H) → FmC 𝓤 H (W .laws) C → Triple 𝓤 (C #asking) (Asks 𝓤 H A at-mem run) → Triple 𝓤 (C #rating) (Rates 𝓤 H A at-mem run) → Triple 𝓤 (C #pass-over) (Passes 𝓤 H A at-mem run)
       → Walks 𝓤 H A self.ended stayed (WpFn 𝓤 H C Λ code.function) (self.clauses 𝓤 H A at-mem run)
-  self-walks C Λ fm k₁ k₂ k₃ k₄ = walked 𝓤 H A self.ended stayed (self.clauses 𝓤 H A at-mem run) (WpFn 𝓤 H C Λ code.function) (λ κs. (slice-vals, (slice-vals, (uint-vals w32, tt))))
+  self-walks C Λ fm k₁ k₂ k₃ = walked 𝓤 H A self.ended stayed (self.clauses 𝓤 H A at-mem run) (WpFn 𝓤 H C Λ code.function) (λ κs. (slice-vals, (slice-vals, (uint-vals w32, tt))))
       (λ κs. (mut-slice-tells (named 0) (κs .0) L.the-row, (shr-slice-tells (named 1) (κs .1 .0) u32, (uint-tells w32, tt))))
       (λ κs qs bounds a g are. via 𝓤 _ (fst∗ 𝓤 _ (emp 𝓤))
-      (walk 𝓤 H A W at-mem run (κs .0) (κs .1 .0) (qs .0) (qs .1 .0) (a .0 .ptr .0) (a .0 .ptr .1) (a .0 .name) (a .0 .now) (a .1 .0 .ptr .0) (a .1 .0 .ptr .1) (a .1 .0 .name) (a .1 .0 .now) (a .1 .1 .0) (are .0 .0 .1) (are .1 .0 .0 .1) (are .1 .1 .0 .1) C Λ fm k₁ k₂ k₃ k₄))
+      (walk 𝓤 H A W at-mem run (κs .0) (κs .1 .0) (qs .0) (qs .1 .0) (a .0 .ptr .0) (a .0 .ptr .1) (a .0 .name) (a .0 .now) (a .1 .0 .ptr .0) (a .1 .0 .ptr .1) (a .1 .0 .name) (a .1 .0 .now) (a .1 .1 .0) (are .0 .0 .1) (are .1 .0 .0 .1) (are .1 .1 .0 .1) C Λ fm k₁ k₂ k₃))
 
   goes : AllGo 𝓤 H A W 2 (self.signature .params) (self.ended .kept) stayed
   goes = (goes-slice 𝓤 H A W 2 0 tt (plain (λ _. L.the-row)), (goes-none-slice 𝓤 H A W 2 (1 ∷ []) tt (plain (λ _. u32)) yes, (goes-none 𝓤 H A W 2 (λ _. u32) yes (λ κs x f. refl), tt)))
 
 self-meets : {M : Type 1} (𝓤 : URA M) (H : Heap 𝓤) (A : Atoms 𝓤) → Given 𝓤 H A → (at-mem : Memory → SProp 𝓤) (run : Routine → Fun 𝓤) (𝓣 : Tables 𝓤 H) → Triple 𝓤 (𝓣 .C #asking) (Asks 𝓤 H A at-mem run) → Triple 𝓤 (𝓣 .C #rating) (Rates 𝓤 H A at-mem run)
-    → Triple 𝓤 (𝓣 .C #pass-over) (Passes 𝓤 H A at-mem run) → Triple 𝓤 (𝓣 .C #answer) (Answers 𝓤 H A at-mem run) → Meets 𝓤 H A self.signature (WpFn 𝓤 H (𝓣 .C) (𝓣 .Λ) code.function) (self.spec 𝓤 H A at-mem run)
-self-meets 𝓤 H A W at-mem run 𝓣 k₁ k₂ k₃ k₄ = walk-meets 𝓤 H A self.ended stayed W (goes 𝓤 H A W at-mem run) (self.clauses 𝓤 H A at-mem run) (WpFn 𝓤 H (𝓣 .C) (𝓣 .Λ) code.function) (WpFn-mono 𝓤 H (W .laws) 𝓣 code.function)
-    (self-walks 𝓤 H A W at-mem run (𝓣 .C) (𝓣 .Λ) (fmOf 𝓤 H (W .laws) 𝓣) k₁ k₂ k₃ k₄)
+    → Triple 𝓤 (𝓣 .C #pass-over) (Passes 𝓤 H A at-mem run) → Meets 𝓤 H A self.signature (WpFn 𝓤 H (𝓣 .C) (𝓣 .Λ) code.function) (self.spec 𝓤 H A at-mem run)
+self-meets 𝓤 H A W at-mem run 𝓣 k₁ k₂ k₃ = walk-meets 𝓤 H A self.ended stayed W (goes 𝓤 H A W at-mem run) (self.clauses 𝓤 H A at-mem run) (WpFn 𝓤 H (𝓣 .C) (𝓣 .Λ) code.function) (WpFn-mono 𝓤 H (W .laws) 𝓣 code.function)
+    (self-walks 𝓤 H A W at-mem run (𝓣 .C) (𝓣 .Λ) (fmOf 𝓤 H (W .laws) 𝓣) k₁ k₂ k₃)
 
 pub rate-spec : {M : Type 1} → stated.statement M
 unfolding code.routine tablesOf
@@ -267,5 +247,4 @@ rate-spec 𝓤 H 𝓜 𝓖 𝓡 =
     (self-meets 𝓤 H (𝓖 .A) (givenOf 𝓤 H 𝓜 𝓖) (𝓜 .mem) (𝓡 .run) (tablesOf 𝓤 H 𝓜 (tables 𝓤 H 𝓜 𝓡 code.env))
     (cited 𝓤 H (Asks 𝓤 H (𝓖 .A) (𝓜 .mem) (𝓡 .run)) 𝓜 𝓡 code.env #asking asking-def.routine code.calls-group·Pass·asking (asking-thm.met 𝓤 H 𝓜 𝓖 𝓡))
     (cited 𝓤 H (Rates 𝓤 H (𝓖 .A) (𝓜 .mem) (𝓡 .run)) 𝓜 𝓡 code.env #rating rating-def.routine code.calls-group·Pass·rating (rating-thm.met 𝓤 H 𝓜 𝓖 𝓡))
-    (cited 𝓤 H (Passes 𝓤 H (𝓖 .A) (𝓜 .mem) (𝓡 .run)) 𝓜 𝓡 code.env #pass-over over-def.routine code.calls-group·rating·pass-over (over-thm.met 𝓤 H 𝓜 𝓖 𝓡))
-    (cited 𝓤 H (Answers 𝓤 H (𝓖 .A) (𝓜 .mem) (𝓡 .run)) 𝓜 𝓡 code.env #answer answering-def.routine code.calls-group·Pass·answer (answering-thm.met 𝓤 H 𝓜 𝓖 𝓡)))
+    (cited 𝓤 H (Passes 𝓤 H (𝓖 .A) (𝓜 .mem) (𝓡 .run)) 𝓜 𝓡 code.env #pass-over over-def.routine code.calls-group·rating·pass-over (over-thm.met 𝓤 H 𝓜 𝓖 𝓡)))
