@@ -38,6 +38,7 @@ module _ (D S : ℕ) (h : List Entry) where
       elim (rulingAfter c)
       [ Allowed ↦ accepted (cancelledBy (asks c .burst) (owed h)) | TurnedDown r ↦ refused (refusalNumber r) ]
 
+  -- asking answers what a commit with the serial would be answered, and the serial
   unfoldable pub answerAfter : Call → Answer
   answerAfter (describe ticket d) = commandAnswer (describe ticket d)
   answerAfter (ask d) = asked (commandAnswer (describe (some (serialIn h)) d)) (serialIn h)

@@ -12,7 +12,7 @@ use Rattle.demand.specs.Serials.{changes, serialIn}
 use Rattle.demand.specs.Answers.{answerAfter}
 use Rattle.demand.specs.Machine.{commit, history}
 
--- only ticks and audits
+-- a tick or an audit
 abbrev pub isQuiet : Call → Bool
 isQuiet (describe ticket d) = false
 isQuiet (ask d) = false
@@ -22,6 +22,7 @@ isQuiet noPeriod = false
 isQuiet audit = true
 isQuiet tick = true
 
+-- only ticks and audits
 unfoldable pub onlyQuiet : List Entry → Bool
 onlyQuiet [] = true
 onlyQuiet (e ∷ h) = isQuiet (e .call) && onlyQuiet h

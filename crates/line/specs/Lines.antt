@@ -87,6 +87,7 @@ accepting l k = record { line = withSerial l (oneMore (l .serial)); verdict = Ac
 abbrev pub refusing : Line → Refusal → Answered
 refusing l r = record { line = l; verdict = Refused r }
 
+-- by what the table of refusals makes of it
 abbrev pub answeredBy : Ruling → Line → Line → ℕ → Answered
 answeredBy Allowed l changed k = accepting changed k
 answeredBy (TurnedDown r) l changed k = refusing l r
