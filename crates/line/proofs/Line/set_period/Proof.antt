@@ -6,20 +6,21 @@ use borrow.Author.Tests.{eq-eqb, ne-eqb}
 use Rattle.descriptor.specs.Refusals.{ruling}
 use Rattle.descriptor.specs.declared.Refusal.the-variants.{Period}
 use Rattle.line.specs.Lines.{accepting, refusing, withPeriod, periodOf}
+use Rattle.line.specs.declared.Answered.{Answered}
 use Rattle.line.specs.declared.Line.{Line}
 use Rattle.line.proofs.Line.set_period.Statement.{statement}
 use Rattle.line.proofs.Line.set_period.Tie as tie
 
-module _ (l : Line) (n : ℕ) where
+module _ (l : Line) (n : ℕ) (r : Answered) where
   -- a period of 0 leaves the line as it was
-  refuses : n ≡ 0 → refusing l Period ≡ periodOf l n
+  refuses : n ≡ 0 → r ≡ refusing l Period → r ≡ periodOf l n
   unfolding periodOf ruling
-  refuses h = rw (eq-eqb n 0 h)
+  refuses h e = rw (eq-eqb n 0 h) e
 
   -- any other is set, and nothing else changes
-  sets : (n ≡ 0 → ⊥) → accepting (withPeriod l n) 0 ≡ periodOf l n
+  sets : (n ≡ 0 → ⊥) → r ≡ accepting (withPeriod l n) 0 → r ≡ periodOf l n
   unfolding periodOf ruling
-  sets h = rw (ne-eqb n 0 h)
+  sets h e = rw (ne-eqb n 0 h) e
 
 refusing-requires : tie.Need-refusing-requires
 refusing-requires c κs = search needs
@@ -28,14 +29,10 @@ accepting-requires : tie.Need-accepting-requires
 accepting-requires c κs = search needs
 
 returns : tie.Need-returns
-returns c =
-    let k = c .before .before in
-    rw (c .refusing .ensures, ← refuses (k .args .self) (k .args .rp) (c .before .if1 .taken))
+returns c = search refuses
 
 returns-2 : tie.Need-returns-2
-returns-2 c =
-    let k = c .before .before in
-    rw (c .accepting .ensures, c .before .self .given, ← sets (k .before .args .self) (k .before .args .rp) (k .if1 .left))
+returns-2 c = search sets
 
 pub set-period-spec : {M : Type 1} → statement M
 set-period-spec = tie.close (tie.spec refusing-requires returns accepting-requires returns-2)
