@@ -1,7 +1,8 @@
 // What a tick on a line answers.
+#![tactic(auto)]
 
 // The pulse that begins at a tick.
-#[derive(Drop)]
+#[derive(Clone, Copy)]
 pub enum Front {
     None,
     Tariff,
@@ -9,7 +10,7 @@ pub enum Front {
 }
 
 // A tick's answer: whether the tariff and the burst are complete, the front, and whether a report is given.
-#[derive(Drop)]
+#[derive(Clone, Copy)]
 pub struct Tick {
     pub tariff: bool,
     pub burst: bool,

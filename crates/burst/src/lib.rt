@@ -1,10 +1,12 @@
 // A burst: what is owed, one tick on, whether its next pulse may start, and after that pulse's front.
+#![tactic(auto)]
+
 ghost use Rattle.std.specs.Prelude.{◌≡◌, ◌-◌};
 ghost use Rattle.burst.specs.Bursts.{no_burst, start_of, is_running, held_more, older_of, completes_of, aged_of, is_due, burst_quiet, begun_of};
 
 // The pulses owed, the least distance of its fronts, and the ticks since its last front, held at that distance. Where the
 // distance is 0 none runs.
-#[derive(Drop)]
+#[derive(Clone, Copy)]
 pub struct Burst {
     pub owed: u32,
     pub distance: u32,
@@ -12,7 +14,7 @@ pub struct Burst {
 }
 
 // A burst one tick on, and whether it is complete.
-#[derive(Drop)]
+#[derive(Clone, Copy)]
 pub struct Aged {
     pub burst: Burst,
     pub complete: bool,
@@ -72,6 +74,7 @@ impl Burst {
     }
 
     // Whether it is complete one tick on: no pulse is owed, and the last one ends.
+    #[tactic(auto, unfolding(crate::specs::Bursts::completes_of))]
     pub fn completes(self, pulse: u32) -> bool
         ensures { result ≡ completes_of pulse self }
     {
@@ -80,6 +83,7 @@ impl Burst {
     }
 
     // One tick on.
+    #[tactic(auto, unfolding(crate::specs::Bursts::aged_of))]
     pub fn aged(self, pulse: u32) -> Aged
         ensures { result ≡ aged_of pulse self }
     {
@@ -104,6 +108,7 @@ impl Burst {
     }
 
     // Whether nothing of it happens one tick on, where `passed` says whether S ticks will have passed since the last front.
+    #[tactic(auto, unfolding(crate::specs::Bursts::burst_quiet))]
     pub fn is_quiet(self, pulse: u32, passed: bool) -> bool
         ensures { result ≡ burst_quiet pulse passed self }
     {

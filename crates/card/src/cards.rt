@@ -7,7 +7,7 @@ use printing::Answer;
 use script::{CardCommand, Command, Giving};
 
 // A card: room for its lines, how many there are, the ticks so far, and the bytes of output held back.
-#[derive(Drop)]
+#[derive(Clone, Copy)]
 pub struct Card {
     pub lines: [Line; 65],
     pub count: usize,

@@ -6,7 +6,7 @@ use super::ticks::within;
 use line::{Line, Verdict};
 
 // The lines after a group's rate, and what it is answered.
-#[derive(Drop)]
+#[derive(Clone, Copy)]
 pub struct Grouped {
     pub lines: [Line; 65],
     pub verdict: Verdict,

@@ -1,5 +1,6 @@
 // Runs a script of commands on a card of lines from standard input, and prints what the lines answer and the notices
 // that their dispatcher sends.
+#![tactic(auto)]
 mod cards;
 mod describing;
 mod groups;

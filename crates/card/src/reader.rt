@@ -6,7 +6,7 @@ use script::{CardCommand, Command, Giving};
 // A reader: the command that is to be obeyed, which is `tick 0` while there is none; and, while a descriptor waits for
 // phase lines, how many are missing, the place of its line, how it is given, its burst part, and the phases that were
 // read.
-#[derive(Drop)]
+#[derive(Clone, Copy)]
 pub struct Reader {
     pub command: CardCommand,
     pub missing: u32,

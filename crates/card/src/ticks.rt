@@ -7,7 +7,7 @@ use line::Line;
 // A run of ticks: how many are still to be made before it stops, which is none once a tick sends a notice or is
 // refused; how many are left to be made after that; the number of ticks so far, held at the largest number; the
 // dispatcher; and what the last tick was answered.
-#[derive(Drop)]
+#[derive(Clone, Copy)]
 pub struct Progress {
     pub left: u32,
     pub rest: u32,
@@ -17,7 +17,7 @@ pub struct Progress {
 }
 
 // The lines after a run of ticks, and the run.
-#[derive(Drop)]
+#[derive(Clone, Copy)]
 pub struct Ran {
     pub lines: [Line; 65],
     pub progress: Progress,

@@ -1,4 +1,6 @@
 // A descriptor and an on-hook event: what they carry, the table of phases, and what the table of refusals makes of them.
+#![tactic(auto)]
+
 mod cancelling;
 mod refusals;
 mod tables;
@@ -10,7 +12,7 @@ pub use tables::phases_for;
 pub use tickets::ticket_ruling;
 
 // The tariff part of a descriptor. The lists of a phased tariff stand beside it.
-#[derive(Drop)]
+#[derive(Clone, Copy)]
 pub enum TariffPart {
     None,
     Keep,
@@ -20,7 +22,7 @@ pub enum TariffPart {
 }
 
 // The burst part of a descriptor.
-#[derive(Drop)]
+#[derive(Clone, Copy)]
 pub enum BurstPart {
     None,
     Keep,
@@ -28,14 +30,14 @@ pub enum BurstPart {
 }
 
 // What an on-hook event carries.
-#[derive(Drop)]
+#[derive(Clone, Copy)]
 pub enum Hook {
     Keep,
     Stop,
 }
 
 // Why a call was turned down.
-#[derive(Drop)]
+#[derive(Clone, Copy)]
 pub enum Refusal {
     Configuration,
     Period,
@@ -54,7 +56,7 @@ pub enum Refusal {
 }
 
 // What the table of refusals makes of a call.
-#[derive(Drop)]
+#[derive(Clone, Copy)]
 pub enum Ruling {
     Allowed,
     TurnedDown(Refusal),

@@ -1,4 +1,6 @@
 // The pulse detector of H.248.26, clause 7: its state, and the calls on it.
+#![tactic(auto)]
+
 ghost use Rattle.std.specs.Prelude.{◌≡◌, suc, ◌≤◌, pos, cond};
 ghost use Rattle.detector.specs.Values.{held_count, top_ticks, elapsed};
 ghost use Rattle.detector.specs.State.{fresh, changed_to, request_of, requested_as, tick_of, ticked_as, audit_of};
@@ -16,7 +18,7 @@ const TOP_COUNT: u32 = 4294967295;
 const TOP_TICKS: u32 = 1000000000;
 
 // A detector: nothing in it grows without an end.
-#[derive(Drop)]
+#[derive(Clone, Copy)]
 pub struct Detector {
     // The request that is on.
     pub request: Request,
@@ -31,21 +33,21 @@ pub struct Detector {
 }
 
 // What a request hands back.
-#[derive(Drop)]
+#[derive(Clone, Copy)]
 pub struct Requested {
     pub detector: Detector,
     pub answer: Answer,
 }
 
 // What a tick hands back.
-#[derive(Drop)]
+#[derive(Clone, Copy)]
 pub struct Ticked {
     pub detector: Detector,
     pub notification: Notification,
 }
 
 // What an audit hands back.
-#[derive(Drop)]
+#[derive(Clone, Copy)]
 pub struct Audited {
     pub detector: Detector,
     pub lri: i32,

@@ -3,7 +3,7 @@ ghost use Rattle.std.specs.Prelude.{◌≡◌};
 ghost use Rattle.detector.specs.Notice.{notice_of, ric_event, ric_interval, notice_by};
 
 // What a tick gives.
-#[derive(Drop)]
+#[derive(Clone, Copy)]
 pub enum Notification {
     Nothing,
     Report,

@@ -3,7 +3,7 @@ ghost use Rattle.std.specs.Prelude.{◌≡◌, cond};
 ghost use Rattle.detector.specs.Request.{same_as, event_of, parameter_of, requested_by, ok, no, detector_number, reply_of, reply_to};
 
 // The request that is on: no event, pr with its report period, or ric with its interval threshold.
-#[derive(Drop)]
+#[derive(Clone, Copy)]
 pub enum Request {
     Off,
     Pr { rp: u32 },
@@ -11,7 +11,7 @@ pub enum Request {
 }
 
 // The detector's part of an events descriptor.
-#[derive(Drop)]
+#[derive(Clone, Copy)]
 pub enum Events {
     Neither,
     Pr { rp: u32 },
@@ -20,7 +20,7 @@ pub enum Events {
 }
 
 // Why a descriptor is refused.
-#[derive(Drop)]
+#[derive(Clone, Copy)]
 pub enum Refusal {
     // rp = 0, or rit over 60,000
     OutOfRange,
@@ -29,7 +29,7 @@ pub enum Refusal {
 }
 
 // The answer to a descriptor.
-#[derive(Drop)]
+#[derive(Clone, Copy)]
 pub enum Answer {
     Accepted,
     Refused(Refusal),

@@ -1,4 +1,5 @@
 // A script of requests and pulses that shows each rule of the detector. Each comment quotes the rule of the line that is written there.
+#![tactic(auto)]
 mod print; // print.rt: one line of output for each answer
 
 use detector::Detector;

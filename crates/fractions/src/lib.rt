@@ -1,10 +1,12 @@
 // A tariff of a/b pulses per charge interval over n elements: its pulse counts, and how often each stands in its map.
+#![tactic(auto)]
+
 ghost use Rattle.std.specs.Prelude.{◌≡◌, ◌<◌, ◌≤◌};
 ghost use Rattle.fractions.specs.Components.{repx_of};
 ghost use Rattle.fractions.specs.Answers.{parameters_answer, parameters_told};
 
 // The parameters of a tariff, or refusal 9.
-#[derive(Drop)]
+#[derive(Clone, Copy)]
 pub enum Parameters {
     Given {
         pcn: u32,
@@ -26,6 +28,7 @@ fn repx_of(a: u64, b: u64, n: u64) -> u64
 }
 
 // The pulse counts of the tariff and how often each stands in its map.
+#[tactic(auto, unfolding(crate::specs::Answers::no_tariff))]
 pub fn parameters_of(a: u32, b: u32, n: u32) -> Parameters
     ensures { parameters_told result ≡ parameters_answer a b n }
 {

@@ -1,4 +1,5 @@
 // Ticks a line where it lies, or a row of 64, for timing: twenty rounds of the case that standard input names, of 7,200,000 ticks each.
+#![tactic(auto)]
 ghost use Rattle.std.specs.Prelude.{◌≡◌};
 ghost use Rattle.lent_ticks.specs.Runs.{after_ticks, row_after, ticked_all};
 
@@ -126,7 +127,7 @@ fn row_pulses(line: Line) -> u64 {
 }
 
 // How ticks are made: on a lent line, on a lent row of 64, or by value.
-#[derive(Drop)]
+#[derive(Clone, Copy)]
 enum Way {
     Lent,
     Row,
@@ -134,7 +135,7 @@ enum Way {
 }
 
 // What is timed: a way, and the case that a letter names.
-#[derive(Drop)]
+#[derive(Clone, Copy)]
 struct Case {
     letter: u8,
     way: Way,

@@ -1,4 +1,5 @@
 // The line of a metering gateway: its record, its calls and their answers.
+#![tactic(auto)]
 ghost use Rattle.std.specs.Prelude.{◌≡◌};
 ghost use Rattle.line.specs.Lines.{with_state, accepting, refusing};
 
@@ -17,7 +18,7 @@ use tariff::Phase;
 
 // A line: pulse length and spacing, its state, and the phases of a phased tariff with their number. The serial is the
 // number of accepted commands, held at 4,294,967,295.
-#[derive(Drop)]
+#[derive(Clone, Copy)]
 pub struct Line {
     pub pulse: u32,
     pub spacing: u32,
@@ -28,34 +29,34 @@ pub struct Line {
 }
 
 // A call's answer: the burst pulses cancelled, or why it was turned down.
-#[derive(Drop)]
+#[derive(Clone, Copy)]
 pub enum Verdict {
     Accepted(u32),
     Refused(Refusal),
 }
 
-#[derive(Drop)]
+#[derive(Clone, Copy)]
 pub struct Answered {
     pub line: Line,
     pub verdict: Verdict,
 }
 
 // What asking tells: what a descriptor would be answered, and the ticket to commit it with.
-#[derive(Drop)]
+#[derive(Clone, Copy)]
 pub struct Asked {
     pub line: Line,
     pub verdict: Verdict,
     pub ticket: u32,
 }
 
-#[derive(Drop)]
+#[derive(Clone, Copy)]
 pub struct Audited {
     pub line: Line,
     pub cpc: u32,
     pub pcslr: u32,
 }
 
-#[derive(Drop)]
+#[derive(Clone, Copy)]
 pub struct Ticked {
     pub line: Line,
     pub tick: Tick,

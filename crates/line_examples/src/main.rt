@@ -1,4 +1,5 @@
 // A call on a line, each step checked from the contracts alone: an em with an add-on charge of two pulses.
+#![tactic(auto)]
 ghost use Rattle.std.specs.Prelude.{◌≡◌};
 ghost use Rattle.phase_lists.specs.Lists.{no_lists};
 ghost use Rattle.line.specs.Lines.{describe_of};

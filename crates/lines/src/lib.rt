@@ -1,4 +1,5 @@
 // The lines of an input that comes piece by piece into a lent buffer.
+#![tactic(auto)]
 ghost use Rattle.std.specs.Prelude.{◌≡◌, ◌||◌, min, ltb};
 ghost use Rattle.lines.specs.Spans.{at_front, begun, last_of, next_of, over_of, past_of};
 ghost use Rattle.lines.specs.Rooms.{fronted, room_of, fed_of};
@@ -13,7 +14,7 @@ use squeezing::squeeze;
 
 // The bytes `start` to `end` of the buffer are read and not yet taken. `dropped` is set within a line that is too long
 // for the buffer, of which the first bytes were dropped, and `came` where the last read brought something.
-#[derive(Drop)]
+#[derive(Clone, Copy)]
 pub struct Input {
     pub start: usize,
     pub end: usize,
@@ -23,7 +24,7 @@ pub struct Input {
 
 // A line of the input, without its line feed: whether there is one, whether the buffer holds all that it says, its first
 // place, and the place after its last.
-#[derive(Drop)]
+#[derive(Clone, Copy)]
 pub struct Span {
     pub some: bool,
     pub whole: bool,

@@ -3,7 +3,7 @@ ghost use Rattle.std.specs.Prelude.{◌≡◌, cond, ◌++◌, ◌+◌, min, len
 ghost use Rattle.lines.specs.Squeezing.{is_zero, no_run, run_after, is_redundant, squeezed};
 
 // How the bytes so far end: whether with a blank, and with how many zeros, eleven at most.
-#[derive(Drop)]
+#[derive(Clone, Copy)]
 pub struct Run {
     pub blank: bool,
     pub zeros: u32,

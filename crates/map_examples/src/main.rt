@@ -1,4 +1,5 @@
 // Runs the published examples of H.248.26, 6.5.4, and prints each with its clause.
+#![tactic(auto)]
 use fractions::Parameters;
 use libc::STDOUT_FILENO;
 use pulse_map::{Count, Element};

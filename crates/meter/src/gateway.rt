@@ -8,7 +8,7 @@ use script::Command;
 use state::{Moved, State};
 
 // A gateway: its line, once a configuration was accepted, and the bytes of output held back.
-#[derive(Drop)]
+#[derive(Clone, Copy)]
 pub struct Gateway {
     pub made: bool,
     pub line: Line,

@@ -1,4 +1,5 @@
 // Runs a script of metering commands from standard input, and prints what the line answers and tells.
+#![tactic(auto)]
 mod gateway;
 mod output;
 mod reader;

@@ -5,7 +5,7 @@ use script::Command;
 
 // A reader: the command that is to be obeyed, which is `run 0` while there is none; and, while a descriptor waits for
 // phase lines, how many are missing, its burst part, and the phases that were read.
-#[derive(Drop)]
+#[derive(Clone, Copy)]
 pub struct Reader {
     pub command: Command,
     pub missing: u32,

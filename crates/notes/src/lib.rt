@@ -1,4 +1,5 @@
 // What is noted of a text where a piece ends: faults, and the values of each name.
+#![tactic(auto)]
 ghost use Rattle.std.specs.Prelude.{◌≡◌};
 ghost use Rattle.notes.specs.Noting.{notes_with, no_marks, count_in, has_in, marked_by, touched_by, stored_of, value_of, signal_of, keep_of, note_of};
 
@@ -13,7 +14,7 @@ const TO_SIGNAL: u8 = 4;
 const TO_VALUE: u8 = 8;
 
 // Whether a fault was met, and the slots of the signal and of the name that is being read.
-#[derive(Drop)]
+#[derive(Clone, Copy)]
 pub struct Marks {
     pub bad: bool,
     pub signal: usize,

@@ -1,4 +1,5 @@
 // What a whole text amounts to: its parts, and the phases of its lists.
+#![tactic(auto)]
 ghost use Rattle.std.specs.Prelude.{◌≡◌, ◌+◌, ◌≤◌, ◌<◌, min, length, take, drop};
 ghost use Rattle.descriptor.specs.Rulings.{table_for};
 ghost use Rattle.grammar.specs.Meaning.{has_lists, is_incomplete, first_or, tariff_by, burst_by, lists_by};
@@ -11,7 +12,7 @@ use phase_lists::PhaseTable;
 
 // A refusal, or the parts of a descriptor. The values of phase list k, from 0 on, stand from place 90 + 9 k on; there
 // are as many as counts[10 + k] says. Of a list that is longer than nine, nine are kept.
-#[derive(Drop)]
+#[derive(Clone, Copy)]
 pub struct Reading {
     pub ruling: Ruling,
     pub tariff: TariffPart,

@@ -1,4 +1,5 @@
 // The phase lines that a descriptor of a script has got so far, and the descriptor with them on a line.
+#![tactic(auto)]
 ghost use Rattle.std.specs.Prelude.{◌≡◌, take, drop};
 ghost use Rattle.line.specs.Lines.{describe_of};
 ghost use Rattle.phase_lines.specs.Gathering.{none_read, with_phase, with_line, first_of, lists_in};
@@ -11,7 +12,7 @@ use script::PhaseLine;
 use tariff::Phase;
 
 // How many were read, whether one was bad, and the seven lists of nine: list i stands from place 9 i on.
-#[derive(Drop)]
+#[derive(Clone, Copy)]
 pub struct Phases {
     pub taken: usize,
     pub bad: bool,

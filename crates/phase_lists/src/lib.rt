@@ -1,4 +1,6 @@
 // The seven phase lists of a descriptor, read and judged in one pass.
+#![tactic(auto)]
+
 ghost use Rattle.std.specs.Prelude.{◌≡◌, get_or};
 ghost use Rattle.tariff.specs.Tariffs.{no_phase};
 ghost use Rattle.phase_lists.specs.Lists.{phase_of, lists_of};
@@ -8,7 +10,7 @@ use rules::Carry;
 use tariff::Phase;
 
 // Phases read from seven lists: what they leave to carry, and the first eight of them at the front of an array.
-#[derive(Drop)]
+#[derive(Clone, Copy)]
 pub struct PhaseTable {
     pub carry: Carry,
     pub phases: [Phase; 8],

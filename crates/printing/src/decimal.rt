@@ -2,7 +2,7 @@
 ghost use Rattle.printing.specs.Text.{Spells};
 
 // Decimal digits: the bytes from `start` on.
-#[derive(Drop)]
+#[derive(Clone, Copy)]
 pub(crate) struct Digits {
     pub bytes: [u8; 10],
     pub start: usize,

@@ -1,4 +1,6 @@
 // The lines that the programs `meter` and `card` print.
+#![tactic(auto)]
+
 mod asks;
 mod buffer;
 mod decimal;
@@ -10,7 +12,7 @@ pub use notices::{put_counters, put_notice};
 pub use text::{put_answer, put_tick};
 
 // What a command is answered: the burst pulses cancelled, the number of a refusal, or neither.
-#[derive(Drop)]
+#[derive(Clone, Copy)]
 pub enum Answer {
     Ok(u32),
     No(u32),
@@ -18,7 +20,7 @@ pub enum Answer {
 }
 
 // The place after a text that was put, or no room for it.
-#[derive(Drop)]
+#[derive(Clone, Copy)]
 pub enum Written {
     Next(usize),
     Full,

@@ -1,4 +1,6 @@
 // Pulse maps of H.248.26, 6.5.4: the elements, X's and pulses of a map.
+#![tactic(auto)]
+
 mod interleaving;
 mod map;
 mod pulses;
@@ -8,7 +10,7 @@ pub use map::{element_at, xs_in_prefix};
 pub use pulses::pulses_in;
 
 // An element of a map, or refusal 11.
-#[derive(Drop)]
+#[derive(Clone, Copy)]
 pub enum Element {
     X,
     N,
@@ -16,7 +18,7 @@ pub enum Element {
 }
 
 // A number of X's or of pulses, or refusal 11.
-#[derive(Drop)]
+#[derive(Clone, Copy)]
 pub enum Count {
     Given(u64),
     Refused,

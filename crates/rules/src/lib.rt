@@ -1,4 +1,6 @@
 // The rules that an em, a rate and a phase keep on a line, and a list of phases in one pass.
+#![tactic(auto)]
+
 ghost use Rattle.std.specs.Prelude.{◌≡◌};
 ghost use Rattle.rules.specs.Rules.{sound_em, sound_numbers, fits_in, sound_phase};
 
@@ -7,7 +9,7 @@ mod carrying;
 use tariff::Phase;
 
 // What a list of phases leaves to carry to the next phase.
-#[derive(Drop)]
+#[derive(Clone, Copy)]
 pub struct Carry {
     // How many phases there were, held at 9: a list has at most 8.
     pub count: u32,
@@ -18,6 +20,7 @@ pub struct Carry {
 }
 
 // Whether an em keeps its rule; a rate is alike, with count 0.
+#[tactic(auto, unfolding(crate::specs::Rules::distance_of, crate::specs::Rules::sound_em))]
 pub fn sound_em(spacing: u32, count: u32, period: u32) -> bool
     ensures { result ≡ sound_em spacing count period }
 {
@@ -50,6 +53,7 @@ fn fits_in(p: Phase, seconds: u32) -> bool
 }
 
 // Whether a phase by itself keeps its rules.
+#[tactic(auto, unfolding(crate::specs::Rules::sound_phase))]
 pub(crate) fn is_sound(p: Phase, spacing: u32) -> bool
     ensures { result ≡ sound_phase spacing p }
 {

@@ -1,4 +1,5 @@
 // A text byte by byte: the place in the grammar, the piece that is being read, and what ended.
+#![tactic(auto)]
 ghost use Rattle.std.specs.Prelude.{◌≡◌, ◌<◌};
 ghost use Rattle.scanner.specs.Machine.{fresh_scanner, is_whole, closed_of, ended_or, turn_to, lost_turn, begin_of, letter_of, digit_of, blank_of, mark_of, last_of, turn_of};
 
@@ -24,7 +25,7 @@ const IN_NUMBER: u8 = 5;
 const WHOLE: u8 = 13;
 
 // A mode, the place before the piece that is being read, the number of its digits, and its code or value.
-#[derive(Drop)]
+#[derive(Clone, Copy)]
 pub struct Scanner {
     pub mode: u8,
     pub place: u8,
@@ -33,7 +34,7 @@ pub struct Scanner {
 }
 
 // The scanner after a byte, and the piece that it ended: the place before it, its kind, and its code or value.
-#[derive(Drop)]
+#[derive(Clone, Copy)]
 pub struct Turn {
     pub scanner: Scanner,
     pub place: u8,

@@ -11,7 +11,7 @@ use super::words::{ended, next_word};
 use super::{CardCommand, Places};
 
 // P and the places that were read, and the place after them or `PAST_END`.
-#[derive(Drop)]
+#[derive(Clone, Copy)]
 struct NextGroup {
     interval: u32,
     places: Places,

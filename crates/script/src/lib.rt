@@ -1,4 +1,5 @@
 // The languages of the programs `meter` and `card`: what each line of their input asks.
+#![tactic(auto)]
 use descriptor::{BurstPart, Hook, TariffPart};
 use tariff::Phase;
 
@@ -19,7 +20,7 @@ pub use phases::read_phase;
 
 // What a line that `meter` reads asks. `phases` is the number of phase lines that follow, 0 where the tariff is not
 // phased.
-#[derive(Drop)]
+#[derive(Clone, Copy)]
 pub enum Command {
     Bad,
     Configure {
@@ -39,14 +40,14 @@ pub enum Command {
 }
 
 // The places of a group: the first `count` of the list, whose others are 0.
-#[derive(Drop)]
+#[derive(Clone, Copy)]
 pub struct Places {
     pub count: usize,
     pub list: [u32; 64],
 }
 
 // How a descriptor is given to a line: to be taken, to be asked only, or to be committed with the ticket of an ask.
-#[derive(Drop)]
+#[derive(Clone, Copy)]
 pub enum Giving {
     Take,
     Ask,
@@ -55,7 +56,7 @@ pub enum Giving {
 
 // What a line of a card's script asks. Only a descriptor is asked or committed. A text stands from the byte `from` on to
 // the end of the line. `read_places` reads the places of a group.
-#[derive(Drop)]
+#[derive(Clone, Copy)]
 pub enum CardCommand {
     Bad,
     Configure {
@@ -81,7 +82,7 @@ pub enum CardCommand {
 }
 
 // What a phase line says.
-#[derive(Drop)]
+#[derive(Clone, Copy)]
 pub enum PhaseLine {
     Numbers(Phase),
     Bad,

@@ -8,14 +8,14 @@ ghost use Rattle.script.specs.Told.{past_end, Read};
 use super::words::{PAST_END, next_word};
 
 // What a word is as a number.
-#[derive(Drop)]
+#[derive(Clone, Copy)]
 pub(crate) enum Number {
     Value(u32),
     None,
 }
 
 // A number that was read, and the place after it, or no number and the place `PAST_END`.
-#[derive(Drop)]
+#[derive(Clone, Copy)]
 pub(crate) struct NextNumber {
     pub value: u32,
     pub at: usize,

@@ -10,7 +10,7 @@ use super::words::{PAST_END, is_word, next_word};
 use descriptor::{BurstPart, TariffPart};
 
 // A tariff part that was read, the number of phase lines that follow, and the place after it or `PAST_END`.
-#[derive(Drop)]
+#[derive(Clone, Copy)]
 pub(crate) struct NextTariff {
     pub part: TariffPart,
     pub phases: u32,
@@ -18,7 +18,7 @@ pub(crate) struct NextTariff {
 }
 
 // A burst part that was read, and the place after it or `PAST_END`.
-#[derive(Drop)]
+#[derive(Clone, Copy)]
 pub(crate) struct NextBurst {
     pub part: BurstPart,
     pub at: usize,

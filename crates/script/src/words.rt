@@ -6,7 +6,7 @@ ghost use Rattle.script.specs.Told.{NextWord, LastWord, ended as Told·ended};
 ghost use Rattle.printing.specs.Bytes.{unpacked};
 
 // A word: the place of its first byte, and the place after its last. They are the same where no word is left.
-#[derive(Drop)]
+#[derive(Clone, Copy)]
 pub(crate) struct Word {
     pub start: usize,
     pub end: usize,

@@ -1,4 +1,5 @@
 // A reader of the texts that controllers send: one pass, byte after byte.
+#![tactic(auto)]
 ghost use Rattle.std.specs.Prelude.{◌≡◌};
 ghost use Rattle.sg.specs.Readings.{read_of};
 

@@ -1,1 +1,2 @@
 // The slots of a tariff as the paper gives them. It has no code: specs/ states them, and proofs/ shows that the crate tariff follows them.
+#![tactic(auto)]

@@ -22,6 +22,7 @@ fn report_due(rp: u32, n: u32) -> bool
 
 impl Counters {
     // After a front.
+    #[tactic(auto, unfolding(crate::specs::States::count_of))]
     fn counted(self) -> Count
         ensures { result ≡ count_of self }
     {
@@ -48,6 +49,7 @@ impl Counters {
         }
     }
     // After a tick with this front or none.
+    #[tactic(auto, unfolding(crate::specs::States::count_by))]
     pub fn counted_by(self, front: Front) -> Count
         ensures { result ≡ count_by front self }
     {

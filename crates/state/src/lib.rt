@@ -1,4 +1,6 @@
 // The state of a line, all that a tick changes: its record, its counters, and a tick at which nothing happens.
+#![tactic(auto)]
+
 mod counting;
 mod parts;
 mod quiet;
@@ -9,7 +11,7 @@ pub use counting::one_more;
 use tariff::Tariff;
 
 // The pulses applied, the pulses since the last report, and the report period, 0 for none.
-#[derive(Drop)]
+#[derive(Clone, Copy)]
 pub struct Counters {
     pub cpc: u32,
     pub pcslr: u32,
@@ -17,7 +19,7 @@ pub struct Counters {
 }
 
 // The counters after a front, and whether it gives a report.
-#[derive(Drop)]
+#[derive(Clone, Copy)]
 pub struct Count {
     pub counters: Counters,
     pub report: bool,
@@ -25,7 +27,7 @@ pub struct Count {
 
 // All that a tick changes: the ticks to the next slot, or to the completion of a tariff that is ending; the clock; the
 // ticks since the last front, held at the spacing; what runs; the counters.
-#[derive(Drop)]
+#[derive(Clone, Copy)]
 pub struct State {
     pub wait: u64,
     pub clock: u32,
@@ -37,7 +39,7 @@ pub struct State {
 
 // The state after a tick, what the tick tells, and whether anything happened at it: a slot, an empty one too, a front, a
 // completion, or the end of a pulse.
-#[derive(Drop)]
+#[derive(Clone, Copy)]
 pub struct Moved {
     pub state: State,
     pub tick: Tick,
@@ -45,7 +47,7 @@ pub struct Moved {
 }
 
 // Whether more may happen at a tick than that time goes on, and the tick where it does not.
-#[derive(Drop)]
+#[derive(Clone, Copy)]
 pub struct Quick {
     pub busy: bool,
     pub moved: Moved,

@@ -14,6 +14,7 @@ fn one_less(wait: u64) -> u64
 
 impl State {
     // Whether the next tick is quiet, on a line of this pulse length and spacing.
+    #[tactic(auto, unfolding(crate::specs::States::quiet_of))]
     pub fn is_quiet(self, pulse: u32, spacing: u32) -> bool
         ensures { result ≡ quiet_of pulse spacing self }
     {
@@ -30,6 +31,7 @@ impl State {
     }
 
     // After a quiet tick.
+    #[tactic(auto, unfolding(crate::specs::States::waited_of))]
     pub fn waited(self, spacing: u32) -> State
         ensures { result ≡ waited_of spacing self }
     {
@@ -44,6 +46,7 @@ impl State {
     }
 
     // Busy, or the tick where it is quiet.
+    #[tactic(auto, unfolding(crate::specs::States::quick_of))]
     pub fn quick(self, pulse: u32, spacing: u32) -> Quick
         ensures { result ≡ quick_of pulse spacing self }
     {

@@ -1,4 +1,6 @@
 // A tariff one tick on: what is due, and where the tariff stands after it.
+#![tactic(auto)]
+
 ghost use Rattle.std.specs.Prelude.{◌≡◌, cond, false, eqb};
 ghost use Rattle.steps.specs.Steps.{due_of, step_of, stepped};
 ghost use Rattle.tariff.specs.declared.Slot.TheVariants.{Empty, Pulse};
@@ -11,14 +13,14 @@ mod numbers;
 use tariff::{Phase, Slot, Tariff};
 
 // A tariff, and the ticks to its next slot or to its completion.
-#[derive(Drop)]
+#[derive(Clone, Copy)]
 pub struct Waiting {
     pub tariff: Tariff,
     pub wait: u64,
 }
 
 // A tariff one tick on, the ticks to its next slot or to its completion, and what that tick has.
-#[derive(Drop)]
+#[derive(Clone, Copy)]
 pub struct Stepped {
     pub tariff: Tariff,
     pub wait: u64,

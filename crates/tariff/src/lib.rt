@@ -1,4 +1,6 @@
 // The tariffs of a line: the phases of a phased tariff, and where a running tariff stands.
+#![tactic(auto)]
+
 mod phases;
 mod room;
 mod setting;
@@ -6,7 +8,7 @@ mod setting;
 pub use phases::phase_at;
 
 // A phase of a phased tariff, as a descriptor gives it.
-#[derive(Drop)]
+#[derive(Clone, Copy)]
 pub struct Phase {
     pub pri: u32,
     pub pcx: u32,
@@ -18,7 +20,7 @@ pub struct Phase {
 }
 
 // What a tariff has at a tick.
-#[derive(Drop)]
+#[derive(Clone, Copy)]
 pub enum Slot {
     None,
     Empty,
@@ -26,7 +28,7 @@ pub enum Slot {
 }
 
 // Where a tariff stands. The ticks to its next slot, or to its completion where it is ending, are kept beside it.
-#[derive(Drop)]
+#[derive(Clone, Copy)]
 pub enum Tariff {
     Idle,
     // An em with C = 0.

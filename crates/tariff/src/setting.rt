@@ -6,6 +6,7 @@ use super::{Phase, Tariff, phases};
 
 impl Tariff {
     // A fresh em.
+    #[tactic(auto, unfolding(crate::specs::Tariffs::em_of))]
     pub fn em(count: u32, period: u32) -> Tariff
         ensures { result ≡ em_of count period }
     {
@@ -21,6 +22,7 @@ impl Tariff {
     }
 
     // A fresh phased tariff.
+    #[tactic(auto, unfolding(crate::specs::Tariffs::phased_of))]
     pub fn phased(phases: [Phase; 8]) -> Tariff
         ensures { result ≡ phased_of phases }
     {
@@ -34,6 +36,7 @@ impl Tariff {
     }
 
     // A rate: the next slot stays, and the later ones follow it `interval` apart.
+    #[tactic(auto, unfolding(crate::specs::Tariffs::rate_of))]
     pub fn rate(self, interval: u32) -> Tariff
         ensures { result ≡ rate_of interval self }
     {

@@ -1,4 +1,5 @@
 // Reads texts of controllers from standard input, one a line, and prints what each reads as.
+#![tactic(auto)]
 mod output;
 mod readings;
 

@@ -1,4 +1,6 @@
 // One tick of a line: what is over ends, what is due begins and is counted.
+#![tactic(auto)]
+
 ghost use Rattle.std.specs.Prelude.{◌≡◌, not, ◌&&◌};
 ghost use Rattle.state.specs.States.{is_on};
 ghost use Rattle.ticking.specs.Rules.{front_at};
