@@ -42,6 +42,7 @@ pub fn no_table() -> PhaseTable
 }
 
 // How many phases the seven lists hold: their one length, or none where their lengths differ.
+#[tactic(auto, unfolding(crate::specs::Tables::phase_count))]
 fn phase_count(
     pri: &[u32],
     pcx: &[u32],
