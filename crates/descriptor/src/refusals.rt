@@ -48,6 +48,7 @@ fn sound_burst(pulses: u32, interval: u32) -> bool
 }
 
 // A rate needs an em with C = 0, and its interval is held to the rule of an em.
+#[tactic(auto, unfolding(crate::specs::Rulings::tariff_ruling))]
 fn rate_ruling(spacing: u32, endless: bool, interval: u32) -> Ruling
     ensures { result ≡ tariff_ruling spacing endless (Rate interval) no_table }
 {
@@ -61,6 +62,7 @@ fn rate_ruling(spacing: u32, endless: bool, interval: u32) -> Ruling
 }
 
 // An em is held to its own rule only.
+#[tactic(auto, unfolding(crate::specs::Rulings::tariff_ruling))]
 fn em_ruling(spacing: u32, count: u32, period: u32) -> Ruling
     ensures { result ≡ tariff_ruling spacing false (Em count period) no_table }
 {
@@ -86,6 +88,7 @@ fn phased_ruling(carry: Carry) -> Ruling
 }
 
 // What the table makes of a tariff part, where `endless` says whether an em with C = 0 runs.
+#[tactic(auto, unfolding(crate::specs::Rulings::tariff_ruling))]
 fn tariff_ruling(spacing: u32, endless: bool, part: TariffPart, table: PhaseTable) -> Ruling
     ensures { result ≡ tariff_ruling spacing endless part table }
 {
@@ -99,6 +102,7 @@ fn tariff_ruling(spacing: u32, endless: bool, part: TariffPart, table: PhaseTabl
 }
 
 // What the table makes of a burst part, where `running` says whether a burst runs.
+#[tactic(auto, unfolding(crate::specs::Rulings::burst_ruling))]
 fn burst_ruling(running: bool, part: BurstPart) -> Ruling
     ensures { result ≡ burst_ruling running part }
 {

@@ -5,6 +5,7 @@ ghost use Rattle.descriptor.specs.Refusals.{ruling, ticket_causes};
 use super::{Refusal, Ruling};
 
 // A ticket has to be the line's serial, and the serial must not be at its top.
+#[tactic(auto, unfolding(crate::specs::Refusals::ruling))]
 pub fn ticket_ruling(ticket: u32, serial: u32) -> Ruling
     ensures { result ≡ ruling (ticket_causes ticket serial) }
 {
