@@ -27,6 +27,7 @@ Ascending n (cause r applies ∷ cs) = (n < refusal_number r) × Ascending (refu
 
 pub none-applies : (cs : List Cause) → ruling cs ≡ Allowed → (r : Refusal) → Applies r cs → ⊥
 unfolding ruling
+none-applies [] e q a = elim a [ ]
 none-applies (cause r true ∷ cs) e q a = absurd (let o : ◌≡◌ {A = ℕ} 0 1 = cc in omega arith)
 none-applies (cause r false ∷ cs) e q (later a) = none-applies cs e q a
 
@@ -45,12 +46,14 @@ allowed_exactly cs = (none-applies cs, λ none. by (ruling cs) refl none)
     by (TurnedDown r) e none = absurd (none r (refused-applies cs r e))
 
 above : (n : ℕ) (cs : List Cause) (q : Refusal) → Ascending n cs → Applies q cs → n < refusal_number q
+above n [] q a x = elim x [ ]
 above n (cause r b ∷ cs) q a here = a.0
 above n (cause r b ∷ cs) q a (later p) = omega (arith, a.0, above (refusal_number r) cs q a.1 p)
 
 -- and no larger than any that applies
 pub refused_lowest : (n : ℕ) (cs : List Cause) (r q : Refusal) → Ascending n cs → ruling cs ≡ TurnedDown r → Applies q cs → refusal_number r ≤ refusal_number q
 unfolding ruling
+refused_lowest n [] r q a e x = elim x [ ]
 refused_lowest n (cause p true ∷ cs) r q a e here = let same : p ≡ r = cc in rw same (omega arith)
 refused_lowest n (cause p true ∷ cs) r q a e (later x) = let same : p ≡ r = cc in omega (arith, ap refusal_number same, above (refusal_number p) cs q a.1 x)
 refused_lowest n (cause p false ∷ cs) r q a e (later x) = refused_lowest (refusal_number p) cs r q a.1 e x
