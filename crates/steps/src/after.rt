@@ -6,6 +6,7 @@ use super::{Waiting, intervals, numbers};
 use tariff::{Phase, Tariff};
 
 // The ticks from slot k of an em with C > 0 to slot k + 1, each multiplied before it is divided, so that none drifts.
+#[tactic(auto, unfolding(crate::specs::Steps::distance_after))]
 fn distance_after(count: u32, period: u32, k: u32) -> u64
     requires { 0 < count }
     ensures { result ≡ distance_after count period k }
@@ -16,6 +17,7 @@ fn distance_after(count: u32, period: u32, k: u32) -> u64
 }
 
 // After slot k of an em with C > 0: slot k + 1, or the end of the last pulse.
+#[tactic(auto, unfolding(crate::specs::Steps::after_counted))]
 pub(crate) fn after_counted(pulse: u32, count: u32, period: u32, k: u32) -> Waiting
     ensures { result ≡ after_counted pulse count period k }
 {
@@ -37,6 +39,7 @@ pub(crate) fn after_counted(pulse: u32, count: u32, period: u32, k: u32) -> Wait
 }
 
 // After the last interval of phase i, which ends in `wait` ticks: the next phase, if there is one.
+#[tactic(auto, unfolding(crate::specs::Steps::after_phase))]
 fn after_phase(phases: [Phase; 8], count: u32, i: u32, wait: u64) -> Waiting
     ensures { result ≡ after_phase phases count i wait }
 {
@@ -70,6 +73,7 @@ fn ticks_left(seconds: u32, j: u32, pri: u32) -> u64
 }
 
 // After slot j, the last of an interval of phase i, which is p: the next interval of the phase, if there is one.
+#[tactic(auto, unfolding(crate::specs::Steps::after_interval))]
 fn after_interval(
     phases: [Phase; 8],
     count: u32,
@@ -98,6 +102,7 @@ fn after_interval(
 }
 
 // After slot j of an interval of m pulses of phase i, which is p: slot j + 1 of the interval, if there is one.
+#[tactic(auto, unfolding(crate::specs::Steps::after_phased))]
 pub(crate) fn after_phased(
     phases: [Phase; 8],
     count: u32,

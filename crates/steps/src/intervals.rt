@@ -6,6 +6,7 @@ use pulse_map::Element;
 use tariff::Phase;
 
 // The pulses of a charge interval by its map entry; none where the map has no such entry.
+#[tactic(auto, unfolding(crate::specs::Steps::pulses_at))]
 pub(crate) fn pulses_at(p: Phase, entry: u64) -> u32
     ensures { result ≡ pulses_at p entry }
 {
@@ -22,6 +23,7 @@ pub(crate) fn pulses_at(p: Phase, entry: u64) -> u32
 }
 
 // The map entry of the next charge interval: the map repeats.
+#[tactic(auto, unfolding(crate::specs::Steps::next_entry))]
 pub(crate) fn next_entry(p: Phase, entry: u64) -> u64
     ensures { result ≡ next_entry p entry }
 {

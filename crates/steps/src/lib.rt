@@ -49,6 +49,7 @@ fn at_slot(next: Waiting, slot: Slot) -> Stepped
 }
 
 // What is due of a phased tariff with so many phases.
+#[tactic(auto, unfolding(crate::specs::Steps::due_of))]
 fn due_phased(phases: [Phase; 8], count: u32, i: u32, entry: u64, left: u32, j: u32) -> Stepped
     ensures { result ≡ due_of 0 phases count (Phased i entry left j) }
 {
@@ -59,6 +60,7 @@ fn due_phased(phases: [Phase; 8], count: u32, i: u32, entry: u64, left: u32, j: 
 }
 
 // What is due when the wait is over, on a line with so many phases, whose pulses last `pulse` ticks.
+#[tactic(auto, unfolding(crate::specs::Steps::due_of))]
 fn due(tariff: Tariff, pulse: u32, phases: [Phase; 8], count: u32) -> Stepped
     ensures { result ≡ due_of pulse phases count tariff }
 {
@@ -99,6 +101,7 @@ fn due(tariff: Tariff, pulse: u32, phases: [Phase; 8], count: u32) -> Stepped
 }
 
 // One tick of a tariff: one less to wait, or what is due.
+#[tactic(auto, unfolding(crate::specs::Steps::step_of))]
 pub fn step(tariff: Tariff, wait: u64, pulse: u32, phases: [Phase; 8], count: u32) -> Stepped
     ensures { result ≡ step_of pulse phases count tariff wait }
 {
