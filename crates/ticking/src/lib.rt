@@ -23,6 +23,7 @@ fn front_at(slot: Slot, burst: bool) -> Front
 }
 
 // The ticks since the last front, which may be at this tick.
+#[tactic(auto, unfolding(crate::specs::Moves::since_front))]
 fn since_front(front: Front, since: u32) -> u32
     ensures { result ≡ since_front front since }
 {
@@ -34,6 +35,7 @@ fn since_front(front: Front, since: u32) -> u32
 }
 
 // The burst after this front or none.
+#[tactic(auto, unfolding(crate::specs::Moves::burst_after))]
 fn burst_after(front: Front, burst: Burst) -> Burst
     ensures { result ≡ burst_after front burst }
 {
@@ -53,6 +55,7 @@ fn ends(pulse: u32, before: u32, now: u32) -> bool
 }
 
 // Whether anything happened.
+#[tactic(auto, unfolding(crate::specs::Moves::happens))]
 fn has_event(slot: Slot, front: Front, complete: bool, ended: bool) -> bool
     ensures { result ≡ happens slot front complete ended }
 {
@@ -69,6 +72,7 @@ fn has_event(slot: Slot, front: Front, complete: bool, ended: bool) -> bool
 
 // One tick, on a line of this pulse length and spacing and with so many phases: the clock goes up, what is over ends, a
 // slot due now, or else a burst pulse, begins, and is counted.
+#[tactic(auto, unfolding(crate::specs::Moves::moved_by))]
 pub fn moved(pulse: u32, spacing: u32, phases: [Phase; 8], count: u32, state: State) -> Moved
     ensures { result ≡ moved_by pulse spacing phases count state }
 {
