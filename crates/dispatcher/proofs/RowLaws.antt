@@ -7,7 +7,7 @@ use native.Mathlib.Nat.{not-suc-le-zero, le_of_suc-le-suc}
 use lib.Dec.{ltb, eqb}
 use lib.ListN.{length, get_or, set}
 use Rattle.answers.specs.declared.Tick.{Tick}
-use Rattle.line.specs.Lines.{idle_line, tick_of}
+use Rattle.line.specs.Lines.{tick_of}
 use Rattle.line.specs.declared.Line.{Line}
 use Rattle.dispatcher.specs.Dispatch.{gathered, gather_all, waits_in, bad_row, wrong_row, ticked_row, told_row, sent_by, after_tick, dispatch_of}
 use Rattle.dispatcher.specs.ByLine.{with_waiting, gathered_at, dispatched_by}
@@ -15,12 +15,6 @@ use Rattle.dispatcher.specs.declared.Waiting.{Waiting}
 use Rattle.dispatcher.specs.declared.Dispatcher.{Dispatcher}
 use Rattle.dispatcher.specs.declared.Reply.TheVariants.{Sends, Refuses}
 use Rattle.descriptor.specs.declared.Refusal.TheVariants.{Row}
-
-abbrev pub no_line : Line
-no_line = idle_line 0 0 0 0
-
-abbrev pub line_at : List Line → ℕ → Line
-line_at ls i = get_or ls i no_line
 
 -- the row with its first i lines ticked
 unfoldable pub row_at : ℕ → List Line → List Line
@@ -38,29 +32,29 @@ told_at (suc i) (l ∷ ls) = (tick_of l).tick ∷ told_at i ls
 unfoldable pub gathered_to : Dispatcher → ℕ → List Line → Dispatcher
 gathered_to d i ls = with_waiting d (gather_all d.waiting (told_at i ls))
 
--- ---- one line more
-pub row_step : (i : ℕ) (ls : List Line) → i < length ls → set (row_at i ls) i (tick_of (line_at (row_at i ls) i)).line ≡ row_at (suc i) ls
+-- ---- one line more, where o stands for what is read past the end
+pub row_step : (o : Line) (i : ℕ) (ls : List Line) → i < length ls → set (row_at i ls) i (tick_of (get_or (row_at i ls) i o)).line ≡ row_at (suc i) ls
 unfolding row_at
-row_step i [] h = absurd (not-suc-le-zero h)
-row_step zero (l ∷ ls) h = refl
-row_step (suc i) (l ∷ ls) h = ap (λ (zs : List Line). (tick_of l).line ∷ zs) (row_step i ls (le_of_suc-le-suc h))
+row_step o i [] h = absurd (not-suc-le-zero h)
+row_step o zero (l ∷ ls) h = refl
+row_step o (suc i) (l ∷ ls) h = ap (λ (zs : List Line). (tick_of l).line ∷ zs) (row_step o i ls (le_of_suc-le-suc h))
 
 gather_none : (ws : List Waiting) → gather_all ws [] ≡ ws
 unfolding gather_all
 gather_none [] = refl
 gather_none (w ∷ ws) = refl
 
-told-step : (i : ℕ) (ws : List Waiting) (ls : List Line) → i < length ls →
-    set (gather_all ws (told_at i ls)) i (gathered (waits_in (gather_all ws (told_at i ls)) i) (tick_of (line_at (row_at i ls) i)).tick) ≡ gather_all ws (told_at (suc i) ls)
+told-step : (o : Line) (i : ℕ) (ws : List Waiting) (ls : List Line) → i < length ls →
+    set (gather_all ws (told_at i ls)) i (gathered (waits_in (gather_all ws (told_at i ls)) i) (tick_of (get_or (row_at i ls) i o)).tick) ≡ gather_all ws (told_at (suc i) ls)
 unfolding gather_all told_at row_at
-told-step i ws [] h = absurd (not-suc-le-zero h)
-told-step i [] (l ∷ ls) h = refl
-told-step zero (w ∷ ws) (l ∷ ls) h = ap (λ (zs : List Waiting). gathered w (tick_of l).tick ∷ zs) (sym (gather_none ws))
-told-step (suc i) (w ∷ ws) (l ∷ ls) h = ap (λ (zs : List Waiting). gathered w (tick_of l).tick ∷ zs) (told-step i ws ls (le_of_suc-le-suc h))
+told-step o i ws [] h = absurd (not-suc-le-zero h)
+told-step o i [] (l ∷ ls) h = refl
+told-step o zero (w ∷ ws) (l ∷ ls) h = ap (λ (zs : List Waiting). gathered w (tick_of l).tick ∷ zs) (sym (gather_none ws))
+told-step o (suc i) (w ∷ ws) (l ∷ ls) h = ap (λ (zs : List Waiting). gathered w (tick_of l).tick ∷ zs) (told-step o i ws ls (le_of_suc-le-suc h))
 
-pub gather-step : (d : Dispatcher) (i : ℕ) (ls : List Line) → i < length ls → gathered_at (gathered_to d i ls) i (tick_of (line_at (row_at i ls) i)).tick ≡ gathered_to d (suc i) ls
+pub gather-step : (o : Line) (d : Dispatcher) (i : ℕ) (ls : List Line) → i < length ls → gathered_at (gathered_to d i ls) i (tick_of (get_or (row_at i ls) i o)).tick ≡ gathered_to d (suc i) ls
 unfolding gathered_at gathered_to
-gather-step d i ls h = ap (λ (zs : List Waiting). with_waiting d zs) (told-step i d.waiting ls h)
+gather-step o d i ls h = ap (λ (zs : List Waiting). with_waiting d zs) (told-step o i d.waiting ls h)
 
 -- ---- all lines, or none
 row-all : (ls : List Line) → row_at (length ls) ls ≡ ticked_row ls

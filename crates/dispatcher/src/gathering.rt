@@ -68,6 +68,7 @@ impl Dispatcher {
     }
 
     // With what the tick of the line at place i told.
+    #[tactic(auto, unfolding(crate::specs::ByLine::gathered_at))]
     fn noted(self, i: usize, tick: Tick) -> Dispatcher
         ensures { result ≡ gathered_at self i tick }
     {

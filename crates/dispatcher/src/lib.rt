@@ -1,5 +1,6 @@
 // The dispatcher of a card: it ticks a row of lines that its caller lends, and sends one notice a tick.
 #![tactic(auto)]
+
 use descriptor::Refusal;
 
 mod gathering;

@@ -7,6 +7,7 @@ use line::Line;
 
 impl Dispatcher {
     // With no row yet, and nothing to tell.
+    #[tactic(auto, unfolding(crate::specs::Dispatch::fresh_dispatcher))]
     pub fn new() -> Dispatcher
         ensures { result ≡ fresh_dispatcher }
     {

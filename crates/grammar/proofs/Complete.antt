@@ -1,14 +1,14 @@
 -- Every text of the grammar is read, and read as what it says; so its reading is unique.
-use Prim.Native.Nat.{ℕ, zero, suc, ◌≤◌, ◌<◌}
+use Prim.Native.Nat.{ℕ, ◌≤◌}
 use native.Mathlib.Omega.{arith}
-use mathlib.Core.Bool.{Bool, true, false, cond, ◌&&◌, true≢false as no}
+use mathlib.Core.Bool.{Bool, true, false, true≢false as no}
 use mathlib.Core.List.{List, [], ◌∷◌, ◌++◌}
-use mathlib.Core.Path.{◌≡◌, refl, sym, ap, ◌∙◌}
+use mathlib.Core.Path.{◌≡◌, refl, ap, ◌∙◌}
 use borrow.Author.Tests.{leb-true, lt-leb, lt-ltb}
-use lib.Dec.{leb, ltb, eqb}
+use lib.Dec.{leb}
 use Rattle.tariff.proofs.Both.{both_right}
-use Rattle.grammar.specs.Grammar.{Row, none, ◌▹◌, Value, single, list, Item, keep, valued, Signal, bare, braced, Text, empty, signals, Piece, SG, amet/, KA, opens, shuts, from, to, comma, equals, name, number, bytes, is_small, is_digit, commas, with_number, with_value, with_item, with_signal, head, pieces_of, Small, Digit, Name, letter, letters, Digits, digit, digits, Spelled, a-SG, an-amet/, a-KA, a_brace, a-closing_brace, a_bracket, a-closing_bracket, a_comma, an_equals, a-name, a-number, Blanks, no-blank, blank, Spaced, first, next, Says}
-use Rattle.grammar.specs.Reader.{Read, nothing, begun, to_signal, to_name, named, to_item, item_named, to_value, item_read, to_number, number_read, signal_read, whole, wrong, feed, Scan, fresh, gap, in_sg, in_ka, in_name, in_number, closed, Class, class_of, on_class, on_small, on_blank, spaced, scan, scans, digit as digit-class, small as small-class}
+use Rattle.grammar.specs.Grammar.{Row, none, ◌▹◌, single, list, Item, keep, valued, Signal, bare, braced, Text, empty, signals, Piece, SG, amet/, KA, opens, shuts, from, to, comma, equals, name, number, bytes, commas, with_number, with_item, with_signal, head, pieces_of, Small, Digit, Name, letter, letters, Digits, digit, digits, Spelled, a-SG, an-amet/, a-KA, a_brace, a-closing_brace, a_bracket, a-closing_bracket, a_comma, an_equals, a-name, a-number, Blanks, no-blank, blank, Spaced, first, next, Says}
+use Rattle.grammar.specs.Reader.{Read, nothing, begun, to_signal, to_name, named, to_item, item_named, to_value, item_read, to_number, number_read, signal_read, whole, wrong, feed, Scan, fresh, gap, in_sg, in_ka, in_name, in_number, closed, class_of, on_blank, spaced, scan, scans, digit as digit-class, small as small-class}
 
 -- PIECE BY PIECE: a text's pieces lead to the whole text
 

@@ -4,8 +4,8 @@ use mathlib.Core.Bool.{Bool, true, false, cond, true≢false as no}
 use mathlib.Core.List.{List}
 use mathlib.Core.Path.{◌≡◌, refl, sym, ap, ◌∙◌}
 use Rattle.grammar.specs.Grammar.{Text, Says}
-use Rattle.grammar.specs.Reader.{Scan, fresh, gap, in_sg, in_ka, in_name, in_number, scans, Found, found, missing, text_read, text_in, text_of}
-use Rattle.grammar.specs.Reader.{Read, nothing, begun, to_signal, to_name, named, to_item, item_named, to_value, item_read, to_number, number_read, signal_read, whole, wrong}
+use Rattle.grammar.specs.Reader.{Scan, fresh, gap, in_sg, in_ka, in_name, in_number, scans, Found, found, missing, text_in, text_of}
+use Rattle.grammar.specs.Reader.{nothing, begun, to_signal, to_name, named, to_item, item_named, to_value, item_read, to_number, number_read, signal_read, whole, wrong}
 use Rattle.grammar.specs.Meaning.{Reading, unreadable, senseless, descriptor, meaning_of, reading_in, reading_of, is_senseless, given_by, has, values_of, tariff_by, lists_by, burst_by}
 use Rattle.phase_lists.specs.Lists.{Lists}
 use Rattle.descriptor.specs.declared.TariffPart.{TariffPart}

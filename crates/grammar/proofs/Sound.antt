@@ -1,14 +1,13 @@
 -- What is read as a text is one that the grammar has.
-use Prim.Native.Nat.{ℕ, zero, suc, ◌≤◌, ◌<◌}
+use Prim.Native.Nat.{ℕ, suc, ◌≤◌}
 use native.Mathlib.Omega.{arith}
-use mathlib.Core.Bool.{Bool, true, false, cond, ◌&&◌, true≢false as no}
+use mathlib.Core.Bool.{Bool, true, false, cond, true≢false as no}
 use mathlib.Core.List.{List, [], ◌∷◌, ◌++◌, append_assoc, append-nil}
-use mathlib.Core.Path.{◌≡◌, refl, sym, ap, subst, ◌∙◌}
+use mathlib.Core.Path.{◌≡◌, refl, sym, ap, ◌∙◌}
 use borrow.Author.Tests.{eqb-true, ltb-true}
-use lib.Dec.{leb, ltb, eqb}
-use Rattle.grammar.specs.Grammar.{Row, none, ◌▹◌, Value, single, list, Item, keep, valued, Signal, bare, braced, Text, empty, signals, Piece, SG, amet/, KA, opens, shuts, from, to, comma, equals, name, number, bytes, is_small, is_digit, commas, with_number, with_value, with_item, with_signal, head, pieces_of, Small, Digit, Name, letter, letters, Digits, digit, digits, Spelled, a-SG, an-amet/, a-KA, a_brace, a-closing_brace, a_bracket, a-closing_bracket, a_comma, an_equals, a-name, a-number, Blanks, no-blank, blank, Spaced, first, next, Says, same}
+use lib.Dec.{ltb, eqb}
+use Rattle.grammar.specs.Grammar.{Row, none, ◌▹◌, Item, Signal, Text, Piece, SG, amet/, KA, opens, shuts, from, to, comma, equals, name, number, bytes, is_small, is_digit, commas, with_number, with_item, with_signal, head, pieces_of, Small, Digit, Name, letter, letters, Digits, digit, digits, Spelled, a-SG, an-amet/, a-KA, a_brace, a-closing_brace, a_bracket, a-closing_bracket, a_comma, an_equals, a-name, a-number, Blanks, no-blank, blank, Spaced, first, next, Says, same}
 use Rattle.grammar.specs.Reader.{Read, nothing, begun, to_signal, to_name, named, to_item, item_named, to_value, item_read, to_number, number_read, signal_read, whole, wrong, kind_of, word_of, Option, ◌⇒◌, options, choose, feed, Scan, fresh, gap, in_sg, in_ka, in_name, in_number, closed, Class, small, digit as digit-class, blank as blank-class, slash, S, G, K, A, other, mark, class_of, on_class, on_small, on_digit, on_blank, on_slash, on_g, on_a, spaced, scan, scans}
-use Rattle.grammar.proofs.Complete.{fails}
 
 -- PIECE BY PIECE: the pieces that have been read
 
@@ -414,6 +413,7 @@ all_reached (b ∷ l) s k h = rw append_assoc at (all_reached l (scan s b) (k ++
 as_said : {t : Text} {l : List ℕ} → Reached (gap (whole t)) l → Says l t
 as_said (past-piece h s) = s
 as_said (past-blank h e) = absurd (no e)
+as_said {t = t} {l = l} (lost x) = elim x [ ]
 
 pub sound : (t : Text) (l : List ℕ) → scans fresh l ≡ gap (whole t) → Says l t
 sound t l e = as_said (rw e at (all_reached l fresh [] at-start))

@@ -1,12 +1,12 @@
 -- What a text asks for: a descriptor, or nothing where one of the causes applies that are listed here.
-use Rattle.std.specs.Prelude.{ℕ, ◌+◌, ◌*◌, ◌-◌, min, Bool, true, false, cond, not, ◌||◌, ◌&&◌, List, [], ◌∷◌, ◌++◌, eqb, ltb, leb}
+use Rattle.std.specs.Prelude.{ℕ, ◌+◌, ◌*◌, ◌-◌, min, Bool, false, cond, not, ◌||◌, ◌&&◌, List, [], ◌∷◌, ◌++◌, eqb, ltb, leb}
 use Prim.Native.String.{String}
 use Rattle.phase_lists.specs.Lists.{Lists, lists_of}
 use Rattle.descriptor.specs.declared.TariffPart.{TariffPart}
 use Rattle.descriptor.specs.declared.TariffPart.TheVariants.{None as NoTariff, Keep as KeepTariff, Rate, Em, Phased}
 use Rattle.descriptor.specs.declared.BurstPart.{BurstPart}
 use Rattle.descriptor.specs.declared.BurstPart.TheVariants.{None as NoBurst, Keep as KeepBurst, Start}
-use Rattle.grammar.specs.Grammar.{Row, none, ◌▹◌, Value, single, list, Item, keep, valued}
+use Rattle.grammar.specs.Grammar.{Row, none, ◌▹◌, single, list, Item, keep, valued}
 use Rattle.grammar.specs.Grammar.{Signal, bare, braced, Text, empty, signals, bytes, same}
 use Rattle.grammar.specs.Reader.{Found, found, missing, text_of}
 

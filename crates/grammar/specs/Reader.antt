@@ -1,6 +1,6 @@
 -- The reader of the grammar: what has been read so far, piece by piece and byte by byte.
-use Rattle.std.specs.Prelude.{ℕ, zero, suc, Bool, true, false, cond, List, [], ◌∷◌, ◌++◌, eqb, ltb}
-use Rattle.grammar.specs.Grammar.{Row, none, ◌▹◌, Value, single, list, Item, keep, valued}
+use Rattle.std.specs.Prelude.{ℕ, suc, cond, List, [], ◌∷◌, ◌++◌, eqb, ltb}
+use Rattle.grammar.specs.Grammar.{Row, none, ◌▹◌, single, list, Item, keep, valued}
 use Rattle.grammar.specs.Grammar.{Signal, bare, braced, Text, empty, signals}
 use Rattle.grammar.specs.Grammar.{Piece, SG, amet/, KA, opens, shuts, from, to, comma, equals, name, number}
 use Rattle.grammar.specs.Grammar.{bytes, same, is_small, is_digit}

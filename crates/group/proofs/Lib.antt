@@ -4,5 +4,3 @@ pub mod Passing
 pub mod AskLaws
 pub mod RateLaws
 pub mod GroupLaws
-pub mod Handing
-pub mod Verdicts

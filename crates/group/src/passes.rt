@@ -81,6 +81,7 @@ impl Pass {
     }
 
     // One place of the list in a row of n, with the spacing, the serial and the state of the line there.
+    #[tactic(auto, unfolding(crate::specs::Passes::step_of))]
     pub(crate) fn step(
         self,
         n: usize,

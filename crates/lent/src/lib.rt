@@ -1,5 +1,6 @@
 // A tick on a line record that its caller lends.
 #![tactic(auto)]
+
 ghost use Rattle.std.specs.Prelude.{◌≡◌};
 ghost use Rattle.line.specs.Lines.{tick_of};
 

@@ -1,5 +1,6 @@
 // What is noted of a text where a piece ends: faults, and the values of each name.
 #![tactic(auto)]
+
 ghost use Rattle.std.specs.Prelude.{◌≡◌};
 ghost use Rattle.notes.specs.Noting.{notes_with, no_marks, count_in, has_in, marked_by, touched_by, stored_of, value_of, signal_of, keep_of, note_of};
 
@@ -117,6 +118,7 @@ fn keep(m: Marks, counts: &mut [usize; 18], values: &mut [u32; 162]) -> Marks
 }
 
 // Notes what a piece of a kind says at its place.
+#[tactic(auto, unfolding(crate::specs::Noting::note_of))]
 pub fn note(
     m: Marks,
     place: u8,

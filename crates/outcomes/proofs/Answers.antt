@@ -1,6 +1,6 @@
 -- What is answered, by whether the text is whole and whether it has a fault.
-use mathlib.Core.Bool.{Bool, true, false, cond, not, ◌||◌}
-use mathlib.Core.Path.{◌≡◌, refl, sym, ap, ◌∙◌}
+use mathlib.Core.Bool.{Bool, true, false, not, ◌||◌}
+use mathlib.Core.Path.{◌≡◌}
 use borrow.Author.Tests.{not-false, not-true}
 use Rattle.descriptor.specs.declared.Refusal.TheVariants.{Grammar, Content}
 use Rattle.descriptor.specs.declared.Ruling.TheVariants.{Allowed}

@@ -1,5 +1,6 @@
 // What a whole text amounts to: its parts, and the phases of its lists.
 #![tactic(auto)]
+
 ghost use Rattle.std.specs.Prelude.{◌≡◌, ◌+◌, ◌≤◌, ◌<◌, min, length, take, drop};
 ghost use Rattle.descriptor.specs.Rulings.{table_for};
 ghost use Rattle.grammar.specs.Meaning.{has_lists, is_incomplete, first_or, tariff_by, burst_by, lists_by};

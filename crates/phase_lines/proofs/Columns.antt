@@ -40,6 +40,7 @@ other (v ∷ vs) n at i apart =
 -- each is at its own place
 there : (vs n : List ℕ) (at j : ℕ) → j < length vs → at + j * 9 < length n → get_or (spread n at vs) (at + j * 9) 0 ≡ get_or vs j 0
 unfolding spread
+there [] n at j some room = elim some [ ]
 there (v ∷ vs) n at zero some room =
     let same : at + 0 * 9 ≡ at = omega arith in
     rw same (other vs (set n at v) (at + 9) at (λ m same. omega arith) ∙ get_or-set_same n at v 0 (omega arith))

@@ -1,5 +1,6 @@
 // The phase lines that a descriptor of a script has got so far, and the descriptor with them on a line.
 #![tactic(auto)]
+
 ghost use Rattle.std.specs.Prelude.{◌≡◌, take, drop};
 ghost use Rattle.line.specs.Lines.{describe_of};
 ghost use Rattle.phase_lines.specs.Gathering.{none_read, with_phase, with_line, first_of, lists_in};
@@ -80,6 +81,7 @@ impl Phases {
     }
 
     // With one more phase line.
+    #[tactic(auto, unfolding(crate::specs::Gathering::with_line))]
     pub fn with(self, line: PhaseLine) -> Phases
         ensures { result ≡ with_line self line }
     {

@@ -1,5 +1,5 @@
 -- The reader as the code has it, byte by byte: the place in the grammar, the piece that is being read, and what ended.
-use Rattle.std.specs.Prelude.{ℕ, ◌+◌, Bool, true, false, cond, ◌||◌, ◌&&◌, List, [], ◌∷◌, eqb, ltb, get_or}
+use Rattle.std.specs.Prelude.{ℕ, ◌+◌, Bool, true, cond, ◌||◌, ◌&&◌, List, [], ◌∷◌, eqb, ltb, get_or}
 use Rattle.grammar.specs.Grammar.{bytes}
 use Rattle.grammar.specs.Reader.{Class, small, digit, blank, slash, S, G, K, A, other, mark, class_of, kind_of}
 use Rattle.scanner.specs.Codes.{next_letter, next_digit, code_of}

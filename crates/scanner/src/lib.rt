@@ -1,5 +1,6 @@
 // A text byte by byte: the place in the grammar, the piece that is being read, and what ended.
 #![tactic(auto)]
+
 ghost use Rattle.std.specs.Prelude.{◌≡◌, ◌<◌};
 ghost use Rattle.scanner.specs.Machine.{fresh_scanner, is_whole, closed_of, ended_or, turn_to, lost_turn, begin_of, letter_of, digit_of, blank_of, mark_of, last_of, turn_of};
 
@@ -189,6 +190,7 @@ impl Scanner {
     }
 
     // One byte more.
+    #[tactic(auto, unfolding(crate::specs::Machine::turn_of))]
     pub fn step(self, b: u8) -> Turn
         ensures { result ≡ turn_of self b }
     {

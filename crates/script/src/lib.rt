@@ -1,5 +1,6 @@
 // The languages of the programs `meter` and `card`: what each line of their input asks.
 #![tactic(auto)]
+
 use descriptor::{BurstPart, Hook, TariffPart};
 use tariff::Phase;
 

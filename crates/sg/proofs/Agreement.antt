@@ -1,19 +1,16 @@
 -- The reader answers what a text asks for: its refusal, or its parts, with the first nine values of each phase list.
 use Prim.Native.Nat.{ℕ, ◌*◌, ◌<◌, min}
 use native.Mathlib.Omega.{arith}
-use mathlib.Core.Bool.{Bool, true, false, cond, not, ◌||◌, ◌&&◌}
+use mathlib.Core.Bool.{Bool, true, false, cond, ◌||◌}
 use mathlib.Core.List.{List, [], ◌∷◌}
-use mathlib.Core.Path.{◌≡◌, refl, sym, ap, subst, ◌∙◌}
-use lib.Dec.{ltb}
+use mathlib.Core.Path.{◌≡◌, refl, ap, ◌∙◌}
 use lib.ListN.{length, get_or, take, drop}
 use Rattle.phase_lists.specs.Lists.{first_places}
-use Rattle.descriptor.specs.declared.TariffPart.{TariffPart}
-use Rattle.descriptor.specs.declared.BurstPart.{BurstPart}
 use Rattle.descriptor.specs.declared.Refusal.TheVariants.{Grammar, Content}
 use Rattle.descriptor.specs.declared.Ruling.TheVariants.{Allowed}
-use Rattle.grammar.specs.Grammar.{Row, Text, Says}
+use Rattle.grammar.specs.Grammar.{Row}
 use Rattle.grammar.specs.Reader.{Found, found, missing, text_of}
-use Rattle.grammar.specs.Meaning.{Given, given_by, has, values_of, any_faulty, is_incomplete, is_senseless, first_or, tariff_by, burst_by, lists_by}
+use Rattle.grammar.specs.Meaning.{Given, has, values_of, any_faulty, is_incomplete, is_senseless, first_or, tariff_by, burst_by, lists_by}
 use Rattle.grammar.specs.Meaning.{Reading as Meant, unreadable, senseless, descriptor, meaning_of, reading_in, reading_of}
 use Rattle.grammar.proofs.Readings.{found-says}
 use Rattle.notes.specs.Noting.{Notes, has_in}

@@ -7,8 +7,8 @@ use mathlib.Core.Path.{◌≡◌, refl, sym, ap, subst, ◌∙◌}
 use borrow.Author.Tests.{leb-true, ltb-true, eq-eqb, ne_eqb}
 use lib.Dec.{leb, ltb, eqb}
 use Rattle.tariff.proofs.Both.{both_left, both_right}
-use Rattle.grammar.specs.Grammar.{bytes, same, is_small, is_digit, Small, Digit, Name, letter, letters, Digits, digit, digits}
-use Rattle.grammar.specs.Meaning.{Known, ◌↣◌, unknown, slot_in as namedSlot, known_signals, em_items, mpb_items, phsm_items, items_of, decimal_after, decimal_of, signal_slot as signalNamed, item_slot as item_named}
+use Rattle.grammar.specs.Grammar.{bytes, same, is_small, Small, Digit, Name, letter, letters, Digits, digit, digits}
+use Rattle.grammar.specs.Meaning.{Known, ◌↣◌, slot_in as namedSlot, known_signals, em_items, mpb_items, phsm_items, items_of, decimal_after, decimal_of, signal_slot as signalNamed, item_slot as item_named}
 use Rattle.scanner.specs.Codes.{code_after, code_of, number_after, number_of, next_letter, next_digit}
 use Rattle.notes.specs.Noting.{slot_in, signal_slot, item_slot}
 use Rattle.grammar.proofs.Sound.{same_word}

@@ -4,24 +4,23 @@ use mathlib.Core.Bool.{Bool, true, false, cond, ◌||◌, ◌&&◌}
 use mathlib.Core.List.{List, [], ◌∷◌, ◌++◌, append-nil, append_assoc}
 use mathlib.Core.Path.{◌≡◌, refl, sym, ap, ◌∙◌}
 use native.Mathlib.Numerals.{add-one}
-use native.Mathlib.Omega.{arith}
 use borrow.Author.Tests.{ne_eqb}
 use lib.Dec.{eqb, ltb}
 use lib.ListN.{length, get_or, take, drop, take-append-drop}
 use lib.Seq.{take-suc, take_all}
-use Rattle.grammar.specs.Grammar.{Row, none, ◌▹◌, bytes}
-use Rattle.grammar.specs.Reader.{Read, nothing, begun, to_signal, to_name, named, to_item, item_named, to_value, item_read, to_number, number_read, signal_read, whole, wrong, class_of, Scan, fresh, gap, in_sg, in_ka, in_name, in_number, scan, scans, missing, text_in, text_of}
+use Rattle.grammar.specs.Grammar.{none, ◌▹◌, bytes}
+use Rattle.grammar.specs.Reader.{nothing, begun, to_signal, to_name, named, to_item, item_named, to_value, item_read, to_number, number_read, signal_read, whole, wrong, class_of, Scan, fresh, gap, in_sg, in_ka, in_name, in_number, scan, scans, text_in, text_of}
 use Rattle.grammar.proofs.Complete.{scans_append}
 use Rattle.descriptor.specs.declared.Refusal.TheVariants.{Grammar}
 use Rattle.notes.specs.Noting.{Notes, note_of}
 use Rattle.scanner.specs.Codes.{code_of}
-use Rattle.scanner.specs.Machine.{next_of, class_no, is_whole, closed_of, ended_or, turn_to, lost_turn, begin_of, letter_of, digit_of, spaced_to, blank_of, mark_of, last_of, turn_on, turn_of}
+use Rattle.scanner.specs.Machine.{next_of, class_no, is_whole, closed_of, ended_or, turn_to, lost_turn, begin_of, spaced_to, last_of, turn_on, turn_of}
 use Rattle.outcomes.specs.Outcomes.{outcome_of, refused_as, answer_of}
 use Rattle.sg.specs.Readings.{read_in, read_of}
 use Rattle.scanner.specs.declared.Scanner.{Scanner}
 use Rattle.scanner.specs.declared.Turn.{Turn}
 use Rattle.sg.proofs.Pieces.{place_of}
-use Rattle.sg.proofs.Scanning.{picture, read_before, notes_in, Fine, Leads, step-leads, fine}
+use Rattle.sg.proofs.Scanning.{picture, read_before, notes_in, Leads, step-leads, fine}
 
 -- what has been read after i bytes
 abbrev pub after : List ℕ → ℕ → Scan

@@ -11,7 +11,7 @@ use lib.Seq.{take_all}
 use Rattle.tariff.proofs.Both.{both_left, both_right}
 use Rattle.tariff.specs.Ranges.{within}
 use Rattle.rules.proofs.OnePass.{held-within}
-use Rattle.phase_lists.specs.Lists.{Lists, one_length, sound_lists, first_places}
+use Rattle.phase_lists.specs.Lists.{Lists, sound_lists, first_places}
 use Rattle.phase_lists.proofs.FirstPlaces.{first-all}
 
 -- a length up to 8 is told from any other

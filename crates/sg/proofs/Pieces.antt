@@ -1,12 +1,12 @@
 -- The code's places and notes, piece by piece, are an image of what the grammar's reader has read.
-use Prim.Native.Nat.{ℕ, zero, suc, ◌+◌}
+use Prim.Native.Nat.{ℕ}
 use mathlib.Core.Bool.{Bool, true, false, cond, true≢false as no}
-use mathlib.Core.List.{List, [], ◌∷◌, ◌++◌}
+use mathlib.Core.List.{List, [], ◌∷◌}
 use mathlib.Core.Path.{◌≡◌, refl, sym, ap, ◌∙◌}
 use borrow.Author.Tests.{eqb-true}
 use lib.Dec.{eqb}
 use lib.ListN.{get_or}
-use Rattle.grammar.specs.Grammar.{Row, none, ◌▹◌, Value, single, list, Item, keep, valued, Signal, bare, braced, Text, empty, signals, Piece, SG, amet/, KA, opens, shuts, from, to, comma, equals, name, number}
+use Rattle.grammar.specs.Grammar.{Row, none, ◌▹◌, Item, Signal, Piece}
 use Rattle.grammar.specs.Reader.{Read, nothing, begun, to_signal, to_name, named, to_item, item_named, to_value, item_read, to_number, number_read, signal_read, whole, wrong, kind_of, word_of, Option, ◌⇒◌, options, choose, feed, spaced}
 use Rattle.notes.specs.Noting.{Notes, no_notes, note_of, signal_of, item_of, value_of, list_of}
 use Rattle.scanner.specs.Codes.{code_of, number_of}

@@ -1,5 +1,5 @@
 -- The code's scanner, byte by byte, is an image of the grammar's, and notes what the pieces say.
-use Prim.Native.Nat.{ℕ, zero, suc, ◌+◌}
+use Prim.Native.Nat.{ℕ, suc, ◌+◌}
 use native.Mathlib.Omega.{arith}
 use native.Mathlib.Numerals.{add-one}
 use mathlib.Core.Bool.{Bool, true, false, cond, not, ◌&&◌, true≢false as no}
@@ -12,7 +12,7 @@ use Rattle.grammar.specs.Reader.{Read, nothing, wrong, kind_of, word_of, feed, s
 use Rattle.grammar.proofs.Sound.{Seen, seen-small, seen-digit, seen-blank, seen-mark, seen_slash, seen-S, seen-G, seen-K, seen_A, seen_other, seen}
 use Rattle.notes.specs.Noting.{Notes, note_of}
 use Rattle.scanner.specs.Codes.{code_of, number_of, next_letter, next_digit}
-use Rattle.scanner.specs.Machine.{next_of, class_no, fresh_scanner, closed_of, ended_or, turn_to, lost_turn, begin_of, letter_of, digit_of, spaced_to, blank_of, mark_of, last_of, turn_on, turn_of}
+use Rattle.scanner.specs.Machine.{next_of, class_no, fresh_scanner, turn_to, lost_turn, begin_of, letter_of, digit_of, spaced_to, blank_of, mark_of, last_of, turn_on, turn_of}
 use Rattle.scanner.specs.declared.Scanner.{Scanner}
 use Rattle.scanner.specs.declared.Turn.{Turn}
 use Rattle.sg.proofs.Codes.{code-more, number_more, code_same, amet}

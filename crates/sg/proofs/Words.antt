@@ -2,7 +2,7 @@
 use Prim.Native.Nat.{ℕ, ◌≤◌}
 use mathlib.Core.List.{List}
 use mathlib.Core.Path.{◌≡◌, refl}
-use Rattle.grammar.specs.Grammar.{Row, none, ◌▹◌, Piece, SG, amet/, KA, opens, shuts, from, to, comma, equals, name, number, Value, single, list, Item, keep, valued, Signal, bare, braced, Text, empty, signals, commas, with_number, with_item, with_signal, head, Says, Name, Digits, Spelled, a-SG, an-amet/, a-KA, a_brace, a-closing_brace, a_bracket, a-closing_bracket, a_comma, an_equals, a-name, a-number, Spaced, first, next}
+use Rattle.grammar.specs.Grammar.{Row, none, ◌▹◌, Piece, SG, amet/, KA, opens, shuts, from, to, comma, equals, name, number, single, list, Item, keep, valued, Signal, bare, braced, Text, empty, signals, commas, with_number, with_item, with_signal, head, Says, Name, Digits, Spelled, a-SG, an-amet/, a-KA, a_brace, a-closing_brace, a_bracket, a-closing_bracket, a_comma, an_equals, a-name, a-number, Spaced, first, next}
 use Rattle.grammar.specs.Meaning.{decimal_of, signal_slot, item_slot, Given, given, alone, values_by, item_by, items_by, signal_by, signals_by, given_by}
 use Rattle.scanner.specs.Codes.{number_of}
 use Rattle.sg.proofs.Codes.{signal-named, item_named_lem, number-value}

@@ -1,7 +1,7 @@
 -- What the reader notes of a text, and what it answers for any bytes.
 use Rattle.std.specs.Prelude.{ℕ, List}
 use Rattle.descriptor.specs.declared.Refusal.TheVariants.{Grammar}
-use Rattle.grammar.specs.Grammar.{Row, none, ◌▹◌, Value, single, list, Item, keep, valued}
+use Rattle.grammar.specs.Grammar.{Row, none, ◌▹◌, single, list, Item, keep, valued}
 use Rattle.grammar.specs.Grammar.{Signal, bare, braced, Text, empty, signals}
 use Rattle.grammar.specs.Reader.{Found, found, missing, text_of}
 use Rattle.notes.specs.Noting.{Notes, no_notes, value_of, signal_of, item_of, keep_of, single_of, list_of}

@@ -1,5 +1,6 @@
 // A reader of the texts that controllers send: one pass, byte after byte.
 #![tactic(auto)]
+
 ghost use Rattle.std.specs.Prelude.{◌≡◌};
 ghost use Rattle.sg.specs.Readings.{read_of};
 

@@ -1,5 +1,4 @@
-use Rattle.std.proofs.Common.{arith, ◌≡◌, ◌∙◌, ◌%◌}
-use Rattle.std.proofs.Common.{length-set}
+use Rattle.std.proofs.Common.{arith, ◌≡◌, ◌∙◌, ◌%◌, length-set}
 use Rattle.printing.proofs.BufferLaws.{put_nothing}
 use Rattle.printing.proofs.PackedLaws.{length_more, put_more}
 use Rattle.printing.proofs.buffer.put_packed.Goals as goal
