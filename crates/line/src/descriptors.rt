@@ -55,6 +55,7 @@ impl Line {
     }
 
     // The line with a tariff part taken, whose phases, if it is phased, are in the table.
+    #[tactic(auto, unfolding(crate::specs::Lines::tariff_changed))]
     fn with_tariff_part(self, part: TariffPart, table: PhaseTable) -> Line
         ensures { result ≡ tariff_changed part table.carry.count table.phases self }
     {
@@ -69,6 +70,7 @@ impl Line {
     }
 
     // The line with a burst part taken. A burst starts with its distance passed.
+    #[tactic(auto, unfolding(crate::specs::Lines::burst_changed))]
     fn with_burst_part(self, part: BurstPart) -> Line
         ensures { result ≡ burst_changed part self }
     {

@@ -8,6 +8,7 @@ use descriptor::Hook;
 
 impl Line {
     // A hook event: keep leaves the signals, stop ends the tariff and cancels the burst.
+    #[tactic(auto, unfolding(crate::specs::Lines::hook_of))]
     pub fn hook(self, event: Hook) -> Answered
         ensures { result ≡ hook_of self event }
     {

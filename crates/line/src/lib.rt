@@ -1,5 +1,6 @@
 // The line of a metering gateway: its record, its calls and their answers.
 #![tactic(auto)]
+
 ghost use Rattle.std.specs.Prelude.{◌≡◌};
 ghost use Rattle.line.specs.Lines.{with_state, accepting, refusing};
 

@@ -37,6 +37,7 @@ impl Line {
     }
 
     // With no earlier front its rules ask nothing.
+    #[tactic(auto, unfolding(crate::specs::Lines::fresh_line))]
     fn fresh(pulse: u32, spacing: u32, clock: u32) -> Line
         ensures { result ≡ fresh_line pulse spacing clock }
     {
@@ -44,6 +45,7 @@ impl Line {
     }
 
     // The line of a refused configuration, which begins no pulse.
+    #[tactic(auto, unfolding(crate::specs::Lines::blank_line))]
     fn blank() -> Line
         ensures { result ≡ blank_line }
     {
@@ -51,6 +53,7 @@ impl Line {
     }
 
     // A line of this pulse length and gap; a blank line where they are refused.
+    #[tactic(auto, unfolding(crate::specs::Lines::make_of))]
     pub fn make(pulse: u32, gap: u32, clock: u32) -> Answered
         ensures { result ≡ make_of pulse gap clock }
     {

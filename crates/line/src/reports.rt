@@ -7,6 +7,7 @@ use descriptor::Refusal;
 
 impl Line {
     // Sets the report period; pcslr stays.
+    #[tactic(auto, unfolding(crate::specs::Lines::period_of, descriptor::specs::Refusals::ruling))]
     pub fn set_period(mut self, rp: u32) -> Answered
         ensures { result ≡ period_of self rp }
     {
@@ -18,6 +19,7 @@ impl Line {
     }
 
     // Clears the report period; pcslr stays.
+    #[tactic(auto, unfolding(crate::specs::Lines::no_period_of))]
     pub fn clear_period(mut self) -> Answered
         ensures { result ≡ no_period_of self }
     {
@@ -26,6 +28,7 @@ impl Line {
     }
 
     // Both counters; the line is as it was.
+    #[tactic(auto, unfolding(crate::specs::Lines::audit_of))]
     pub fn audit(self) -> Audited
         ensures { result ≡ audit_of self }
     {

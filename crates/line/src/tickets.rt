@@ -8,6 +8,7 @@ use descriptor::{BurstPart, Ruling, TariffPart};
 
 impl Line {
     // A commit of what would be answered so without a ticket. Where it is turned down, the line is as it was.
+    #[tactic(auto, unfolding(crate::specs::Lines::commit_of))]
     fn committing(self, ticket: u32, given: Answered) -> Answered
         ensures { result ≡ commit_of self ticket given }
     {
@@ -20,6 +21,7 @@ impl Line {
 
     // Asking for what would be answered so: what a commit with the serial would be answered, and the serial. The line is
     // as it was.
+    #[tactic(auto, unfolding(crate::specs::Lines::ask_of))]
     fn asking(self, given: Answered) -> Asked
         ensures { result ≡ ask_of self given }
     {

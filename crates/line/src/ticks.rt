@@ -16,6 +16,7 @@ impl Line {
     }
 
     // One tick.
+    #[tactic(auto, unfolding(crate::specs::Lines::tick_of))]
     pub fn tick(self) -> Ticked
         ensures { result ≡ tick_of self }
     {
@@ -29,6 +30,7 @@ impl Line {
     }
 
     // Whether a pulse is on.
+    #[tactic(auto, unfolding(crate::specs::Lines::on_of))]
     pub fn is_on(self) -> bool
         ensures { result ≡ on_of self }
     {
