@@ -99,7 +99,7 @@ module _ (ms : List Making) (i : ℕ) (e₀ : CardEntry) (before : List CardEntr
 
     until-of : {k : Card} (rest : List CardEntry) → tells (due e₀ before i) ≡ true → Run ms (rest ++ (e₀ ∷ before)) k → Until rest
     until-of [] t r = first (at_entry i e₀ before t)
-    until-of (x ∷ rest) t (more c r) = next x rest (few rest r) (until-of rest t r)
+    until-of (x ∷ rest) t (more {k = k} c r) = next x rest (few rest r) (until-of {k = k} rest t r)
 
     heard-by : {k : Card} (rest : List CardEntry) → Run ms (rest ++ (e₀ ∷ before)) k → n ≤ row_ticks (rest ++ (e₀ ∷ [])) → Until rest →
         HeardWithin i n (rest ++ (e₀ ∷ []))

@@ -142,8 +142,8 @@ module _ (ms : List Making) where
   replied (more {h = h} {k = k} c r) = (step-good h k (good r) c).replied
 
   pub cut : {k : Card} (a h : List CardEntry) → Run (a ++ h) k → (k' : Card) × Run h k'
-  cut {k} [] h r = (k, r)
-  cut (e ∷ a) h (more c r) = cut a h r
+  cut {k = k} [] h r = (k, r)
+  cut (_ ∷ a) h (more {k = k} c r) = cut {k = k} a h r
 
   run-calls : (p : CardPast) (cs : List CardCall) → Run p.history p.card → Run (after_card_calls p cs).history (after_card_calls p cs).card
   unfolding after_card_calls

@@ -152,8 +152,11 @@ module _ (D S clock : ℕ) (cfg : Config D S) (small : clock < 2 ^ 32) where
   -- the start itself
   begun-line : {l : Line} (n P : ℕ) (before : List Entry) (e : Entry) → Coupled D S clock (e ∷ before) l → (granted e).burst ≡ Start (suc n) P → Left S l (suc n) (3 * S + n * (max P S + 2 * S)) 0 0 0
   unfolding burst_in
-  begun-line n P before e (line_at {u = u} q b ag g x y) is =
-      record { others = n; distance = max P S; own = max P S; first = 3 * S; wide = omega arith; owing = burst-started D S (ticks (e ∷ before)) (suc n) P (burst_in (e ∷ before)) u (rw is refl) x; count = omega arith; within = late S (omega arith) (omega arith); low = omega arith }
+  begun-line {l} n P before e x is = by e l x is
+    where
+      by : (e : Entry) (l : Line) → Coupled D S clock (e ∷ before) l → (granted e).burst ≡ Start (suc n) P → Left S l (suc n) (3 * S + n * (max P S + 2 * S)) 0 0 0
+      by e l (line_at {u = u} q b ag g x y) is =
+          record { others = n; distance = max P S; own = max P S; first = 3 * S; wide = omega arith; owing = burst-started D S (ticks (e ∷ before)) (suc n) P (burst_in (e ∷ before)) u (rw is refl) x; count = omega arith; within = late S (omega arith) (omega arith); low = omega arith }
 
   -- every call after the start, while a pulse is owed
   left : {l : Line} (n P : ℕ) (rest before : List Entry) (e : Entry) → Run D S clock cfg (rest ++ (e ∷ before)) l → (granted e).burst ≡ Start (suc n) P →
@@ -236,7 +239,10 @@ started-some D S i n P u (runs {m = suc m} p q y on) = omega arith
 module _ (D S clock : ℕ) (cfg : Config D S) (small : clock < 2 ^ 32) where
   some-pulse : {l : Line} (n P : ℕ) (before : List Entry) (e : Entry) → Coupled D S clock (e ∷ before) l → (granted e).burst ≡ Start n P → 1 ≤ n
   unfolding burst_in
-  some-pulse n P before e (line_at {u = u} q b ag g x y) is = started-some D S (ticks (e ∷ before)) n P u (rw is at x)
+  some-pulse {l} n P before e x is = by e l x is
+    where
+      by : (e : Entry) (l : Line) → Coupled D S clock (e ∷ before) l → (granted e).burst ≡ Start n P → 1 ≤ n
+      by e l (line_at {u = u} q b ag g x y) is = started-some D S (ticks (e ∷ before)) n P u (rw is at x)
 
   -- the positive form: if so many ticks follow, the last pulse begins within them
   pub bound : {l : Line} (n P : ℕ) (rest before : List Entry) (e : Entry) → Run D S clock cfg (rest ++ (e ∷ before)) l → (granted e).burst ≡ Start n P → cancels_before n rest ≡ 0 →

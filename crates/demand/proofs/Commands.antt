@@ -17,7 +17,7 @@ use Rattle.descriptor.specs.declared.BurstPart.{BurstPart}
 use Rattle.descriptor.specs.declared.BurstPart.TheVariants.{None as NoBurst, Keep as KeepBurst, Start}
 use Rattle.line.specs.Lines.{tariff_changed, burst_changed, with_period}
 use Rattle.line.specs.declared.Line.{Line}
-use Rattle.demand.specs.History.{Last, at, Started, origin_after, changed_by, zeroed_by, burst_by}
+use Rattle.demand.specs.History.{Last, Started, origin_after, changed_by, zeroed_by, burst_by}
 use Rattle.slots.proofs.Ahead.{Waits}
 use Rattle.slots.proofs.Phased.{phased-start-good}
 use Rattle.slots.proofs.Start.{good-em, good-rate, next-em, next-phased, next-rate}

@@ -21,7 +21,7 @@ use Rattle.line.specs.Lines.{on_of}
 use Rattle.line.specs.declared.Line.{Line}
 use Rattle.grammar.specs.Meaning.{unreadable, senseless, descriptor}
 use Rattle.demand.specs.Calls.{Call, describe, ask, hook, period, no_period, audit, tick, Answer, accepted, refused, asked, counters, ticked, Entry, asks}
-use Rattle.demand.specs.History.{granted, front_of, sum, ticks, accepted_pulses, begun, cancelled, at, passed, Started, idle, started, one_begun, burst_by, burst_in, owed_of, owed, burst_runs, burst_ready, running}
+use Rattle.demand.specs.History.{granted, front_of, sum, ticks, accepted_pulses, begun, cancelled, passed, Started, idle, started, one_begun, burst_by, burst_in, owed_of, owed, burst_runs, burst_ready, running}
 use Rattle.demand.specs.Serials.{serial_in}
 use Rattle.demand.specs.Answers.{ruling_after, burst_may_start}
 use Rattle.demand.proofs.Coupled.{Config}

@@ -1,6 +1,6 @@
 -- Demand 3: one claim about the history of every list of calls.
 use Rattle.std.specs.Prelude.{◌≡◌, true, cond, ◌↔◌, List, [], ◌∷◌, ◌++◌, ℕ, ◌+◌, ◌-◌, ◌*◌, ◌%◌, ◌^◌, min, max, ◌≤◌, ltb}
-use Rattle.demand.specs.Names.{TariffFront, BurstFront, Pulse, Stop, BurstPart, NoBurst, KeepBurst, Start}
+use Rattle.demand.specs.Names.{TariffFront, BurstFront, Pulse, Stop, NoBurst, KeepBurst, Start}
 use Rattle.demand.specs.Names.{TariffPart, NoTariff, KeepTariff, Rate, Em, Phased, is_front, slot_at}
 use Rattle.demand.specs.Calls.{Call, hook, audit, Answer, accepted, counters, Entry}
 use Rattle.demand.specs.History.{granted, front_of, ticks, accepted_pulses, begun, cancelled, owed, last_front}

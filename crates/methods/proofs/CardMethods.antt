@@ -14,9 +14,11 @@ use Rattle.line.specs.declared.Verdict.{Verdict}
 use Rattle.dispatcher.specs.Dispatch.{row_of, dispatch_of}
 use Rattle.dispatcher.specs.declared.Dispatcher.{Dispatcher}
 use Rattle.dispatcher.specs.declared.Dispatched.{Dispatched}
-use Rattle.dispatcher.proofs.Dispatcher as D
+use Rattle.dispatcher.specs.contracts.Dispatcher as D
+use Rattle.dispatcher.proofs.Dispatcher as D_code
 use Rattle.group.specs.Groups.{verdict_of, row_of as ratedBy}
-use Rattle.group.proofs.rate as G
+use Rattle.group.specs.contracts.rate as G
+use Rattle.group.proofs.rate.Met as G_met
 use Rattle.card_demand.specs.Card.{tick_row, group, Stepped, card_step}
 use Rattle.card_demand.specs.Lending.{replied, group_reply}
 use Rattle.card_demand.proofs.Lending.{card_steps}
@@ -47,7 +49,7 @@ module _ {M : Type 1} {𝓤 : Ura M} (𝓛 : Logic 𝓤) (𝓜 : Model 𝓤 𝓛
   pub card-methods : CardMethods 𝓛 𝓜 𝓡
   card-methods =
       record {
-        new = told 𝓛 𝓜 𝓡 (λ κs a. (D.new.clauses 𝓛 𝓜.mem 𝓡.run κs a).ensures tt) (D.new.Met.met 𝓤 𝓛 𝓜 𝓡) (λ _ _ _ _. fact_mono 𝓤 _ _ (λ e ms. sym e));
-        ticks = told 𝓛 𝓜 𝓡 (λ κs a. (D.tick.clauses 𝓛 𝓜.mem 𝓡.run κs a).ensures tt) (D.tick.Met.met 𝓤 𝓛 𝓜 𝓡) (λ _ _ _ _. fact_mono 𝓤 _ _ (λ (e, f) others. tick-step _ _ _ others _ e f));
-        groups = told 𝓛 𝓜 𝓡 (λ κs a. (G.clauses 𝓛 𝓜.mem 𝓡.run κs a).ensures tt) (G.Met.met 𝓤 𝓛 𝓜 𝓡) (λ _ _ _ _. fact_mono 𝓤 _ _ (λ (e, f) others d. group-step d _ _ others _ _ _ e f));
+        new = told 𝓛 𝓜 𝓡 (λ κs a. (D.new.clauses 𝓛 𝓜.mem 𝓡.returns κs a).ensures tt) (D_code.new.Met.met 𝓤 𝓛 𝓜 𝓡) (λ _ _ _ _. fact_mono 𝓤 _ _ (λ e ms. sym e));
+        ticks = told 𝓛 𝓜 𝓡 (λ κs a. (D.tick.clauses 𝓛 𝓜.mem 𝓡.returns κs a).ensures tt) (D_code.tick.Met.met 𝓤 𝓛 𝓜 𝓡) (λ _ _ _ _. fact_mono 𝓤 _ _ (λ (e, f) others. tick-step _ _ _ others _ e f));
+        groups = told 𝓛 𝓜 𝓡 (λ κs a. (G.clauses 𝓛 𝓜.mem 𝓡.returns κs a).ensures tt) (G_met.met 𝓤 𝓛 𝓜 𝓡) (λ _ _ _ _. fact_mono 𝓤 _ _ (λ (e, f) others d. group-step d _ _ others _ _ _ e f));
       }

@@ -8,7 +8,8 @@ use borrow.Table.Steps.{cases}
 use seplogic.Ra.Ura.{Ura}
 use base.Logic.{SProp, ent}
 use prog.Model.{Model}
-use prog.Routine.{Routine}
+use prog.Wired.{Code}
+use mir.Syntax.{Callee}
 use contract.Monad.{fact, fact_mono}
 use contract.Lifetimes.{Lfts}
 use contract.Running.{Running}
@@ -16,8 +17,10 @@ use denote.Ask.Run.{routine_mono}
 use denote.Triple.Entry.{Args, Res}
 use denote.Triple.Clauses.{Ended, AtExit, at_exit}
 use denote.Triple.Weaken.{weaken}
-use Rattle.line.proofs.Line as L
-use Rattle.lent.proofs.tick_in_place as lent
+use Rattle.line.specs.contracts.Line as L
+use Rattle.line.proofs.Line as L_code
+use Rattle.lent.specs.contracts.tick_in_place as lent
+use Rattle.lent.proofs.tick_in_place.Met as lent_met
 use Rattle.descriptor.specs.Refusals.{sound_configuration}
 use Rattle.answers.specs.declared.Tick.{Tick}
 use Rattle.line.specs.Lines.{make_of, describe_text_of, tick_of}
@@ -39,27 +42,27 @@ module _ {M : Type 1} {𝓤 : Ura M} (𝓛 : Logic 𝓤) (𝓜 : Model 𝓤 𝓛
   -- by the contract c that it is proved to meet
   open 𝓛 use {H}
 
-  pub told : {T : Ended} {code : Routine} {claim : Of T (Type 0)} (c : Of T (SProp 𝓤)) → Meeting 𝓛 𝓜 𝓡 T code c
-      → ((κs : Lfts T.signature.lifetimes) (a : Args T.signature κs) (r : Res T.signature κs) (e : AtExit T κs) → ent 𝓤 (c κs a r e) (fact 𝓤 (claim κs a r e))) → Does 𝓛 𝓜 𝓡 T code claim
-  told {T} {code} {claim} c met tells =
-      record { does = weaken 𝓛 T (ensuring 𝓛 𝓜 𝓡 T c) (λ κs a _ r e. fact 𝓤 (claim κs a r e)) (λ κs a _ r ws. tells κs a r (at_exit T κs a ws)) (𝓡.run code) (routine_mono 𝓤 H 𝓜 𝓡 code) met }
+  pub told : {T : Ended} {name : Callee} {code : Code} {claim : Of T (Type 0)} (c : Of T (SProp 𝓤)) → Meeting 𝓛 𝓜 𝓡 T name code c
+      → ((κs : Lfts T.signature.lifetimes) (a : Args T.signature κs) (r : Res T.signature κs) (e : AtExit T κs) → ent 𝓤 (c κs a r e) (fact 𝓤 (claim κs a r e))) → Does 𝓛 𝓜 𝓡 T name code claim
+  told {T} {name} {code} {claim} c met tells =
+      record { does = λ wired. weaken 𝓛 T (ensuring 𝓛 𝓜 𝓡 T c) (λ κs a _ r e. fact 𝓤 (claim κs a r e)) (λ κs a _ r ws. tells κs a r (at_exit T κs a ws)) (𝓡.run (𝓡.env name)) (routine_mono 𝓤 H 𝓜 𝓡 (𝓡.env name)) (met wired) }
 
   pub methods : Methods 𝓛 𝓜 𝓡
   unfolding step history describe_text_of
   methods =
       record {
-        make = told (λ κs a. (L.make.clauses 𝓛 𝓜.mem 𝓡.run κs a).ensures tt) (L.make.Met.met 𝓤 𝓛 𝓜 𝓡) (λ _ a _ _. fact_mono 𝓤 _ _ (λ e. (rw e (taken a.0 a.1.0 a.1.1.0), λ cs. rw e)));
-        describes = told (λ κs a. (L.describe.clauses 𝓛 𝓜.mem 𝓡.run κs a).ensures tt) (L.describe.Met.met 𝓤 𝓛 𝓜 𝓡) (λ _ _ _ _. fact_mono 𝓤 _ _ (λ e. rw e));
-        describes_text = told (λ κs a. (L.describe_text.clauses 𝓛 𝓜.mem 𝓡.run κs a).ensures tt) (L.describe_text.Met.met 𝓤 𝓛 𝓜 𝓡) (λ _ _ _ _. fact_mono 𝓤 _ _ (λ e. rw e));
-        asks = told (λ κs a. (L.ask.clauses 𝓛 𝓜.mem 𝓡.run κs a).ensures tt) (L.ask.Met.met 𝓤 𝓛 𝓜 𝓡) (λ _ _ _ _. fact_mono 𝓤 _ _ (λ e. rw e));
-        asks_text = told (λ κs a. (L.ask_text.clauses 𝓛 𝓜.mem 𝓡.run κs a).ensures tt) (L.ask_text.Met.met 𝓤 𝓛 𝓜 𝓡) (λ _ _ _ _. fact_mono 𝓤 _ _ (λ e. rw e));
-        commits = told (λ κs a. (L.commit.clauses 𝓛 𝓜.mem 𝓡.run κs a).ensures tt) (L.commit.Met.met 𝓤 𝓛 𝓜 𝓡) (λ _ _ _ _. fact_mono 𝓤 _ _ (λ e. rw e));
-        commits_text = told (λ κs a. (L.commit_text.clauses 𝓛 𝓜.mem 𝓡.run κs a).ensures tt) (L.commit_text.Met.met 𝓤 𝓛 𝓜 𝓡) (λ _ _ _ _. fact_mono 𝓤 _ _ (λ e. rw e));
-        hooks = told (λ κs a. (L.hook.clauses 𝓛 𝓜.mem 𝓡.run κs a).ensures tt) (L.hook.Met.met 𝓤 𝓛 𝓜 𝓡) (λ _ _ _ _. fact_mono 𝓤 _ _ (λ e. rw e));
-        periods = told (λ κs a. (L.set_period.clauses 𝓛 𝓜.mem 𝓡.run κs a).ensures tt) (L.set_period.Met.met 𝓤 𝓛 𝓜 𝓡) (λ _ _ _ _. fact_mono 𝓤 _ _ (λ e. rw e));
-        clears = told (λ κs a. (L.clear_period.clauses 𝓛 𝓜.mem 𝓡.run κs a).ensures tt) (L.clear_period.Met.met 𝓤 𝓛 𝓜 𝓡) (λ _ _ _ _. fact_mono 𝓤 _ _ (λ e. rw e));
-        audits = told (λ κs a. (L.audit.clauses 𝓛 𝓜.mem 𝓡.run κs a).ensures tt) (L.audit.Met.met 𝓤 𝓛 𝓜 𝓡) (λ _ _ _ _. fact_mono 𝓤 _ _ (λ e. rw e));
-        ticks = told (λ κs a. (L.tick.clauses 𝓛 𝓜.mem 𝓡.run κs a).ensures tt) (L.tick.Met.met 𝓤 𝓛 𝓜 𝓡) (λ _ _ _ _. fact_mono 𝓤 _ _ (λ e. rw e));
-        lent = told (λ κs a. (lent.clauses 𝓛 𝓜.mem 𝓡.run κs a).ensures tt) (lent.Met.met 𝓤 𝓛 𝓜 𝓡) (λ _ _ _ _. fact_mono 𝓤 _ _ (λ (e, f). lent-step _ e f));
-        on = told (λ κs a. (L.is_on.clauses 𝓛 𝓜.mem 𝓡.run κs a).ensures tt) (L.is_on.Met.met 𝓤 𝓛 𝓜 𝓡) (λ _ _ _ _. fact_mono 𝓤 _ _ (λ e c a. rw e));
+        make = told (λ κs a. (L.make.clauses 𝓛 𝓜.mem 𝓡.returns κs a).ensures tt) (L_code.make.Met.met 𝓤 𝓛 𝓜 𝓡) (λ _ a _ _. fact_mono 𝓤 _ _ (λ e. (rw e (taken a.0 a.1.0 a.1.1.0), λ cs. rw e)));
+        describes = told (λ κs a. (L.describe.clauses 𝓛 𝓜.mem 𝓡.returns κs a).ensures tt) (L_code.describe.Met.met 𝓤 𝓛 𝓜 𝓡) (λ _ _ _ _. fact_mono 𝓤 _ _ (λ e. rw e));
+        describes_text = told (λ κs a. (L.describe_text.clauses 𝓛 𝓜.mem 𝓡.returns κs a).ensures tt) (L_code.describe_text.Met.met 𝓤 𝓛 𝓜 𝓡) (λ _ _ _ _. fact_mono 𝓤 _ _ (λ e. rw e));
+        asks = told (λ κs a. (L.ask.clauses 𝓛 𝓜.mem 𝓡.returns κs a).ensures tt) (L_code.ask.Met.met 𝓤 𝓛 𝓜 𝓡) (λ _ _ _ _. fact_mono 𝓤 _ _ (λ e. rw e));
+        asks_text = told (λ κs a. (L.ask_text.clauses 𝓛 𝓜.mem 𝓡.returns κs a).ensures tt) (L_code.ask_text.Met.met 𝓤 𝓛 𝓜 𝓡) (λ _ _ _ _. fact_mono 𝓤 _ _ (λ e. rw e));
+        commits = told (λ κs a. (L.commit.clauses 𝓛 𝓜.mem 𝓡.returns κs a).ensures tt) (L_code.commit.Met.met 𝓤 𝓛 𝓜 𝓡) (λ _ _ _ _. fact_mono 𝓤 _ _ (λ e. rw e));
+        commits_text = told (λ κs a. (L.commit_text.clauses 𝓛 𝓜.mem 𝓡.returns κs a).ensures tt) (L_code.commit_text.Met.met 𝓤 𝓛 𝓜 𝓡) (λ _ _ _ _. fact_mono 𝓤 _ _ (λ e. rw e));
+        hooks = told (λ κs a. (L.hook.clauses 𝓛 𝓜.mem 𝓡.returns κs a).ensures tt) (L_code.hook.Met.met 𝓤 𝓛 𝓜 𝓡) (λ _ _ _ _. fact_mono 𝓤 _ _ (λ e. rw e));
+        periods = told (λ κs a. (L.set_period.clauses 𝓛 𝓜.mem 𝓡.returns κs a).ensures tt) (L_code.set_period.Met.met 𝓤 𝓛 𝓜 𝓡) (λ _ _ _ _. fact_mono 𝓤 _ _ (λ e. rw e));
+        clears = told (λ κs a. (L.clear_period.clauses 𝓛 𝓜.mem 𝓡.returns κs a).ensures tt) (L_code.clear_period.Met.met 𝓤 𝓛 𝓜 𝓡) (λ _ _ _ _. fact_mono 𝓤 _ _ (λ e. rw e));
+        audits = told (λ κs a. (L.audit.clauses 𝓛 𝓜.mem 𝓡.returns κs a).ensures tt) (L_code.audit.Met.met 𝓤 𝓛 𝓜 𝓡) (λ _ _ _ _. fact_mono 𝓤 _ _ (λ e. rw e));
+        ticks = told (λ κs a. (L.tick.clauses 𝓛 𝓜.mem 𝓡.returns κs a).ensures tt) (L_code.tick.Met.met 𝓤 𝓛 𝓜 𝓡) (λ _ _ _ _. fact_mono 𝓤 _ _ (λ e. rw e));
+        lent = told (λ κs a. (lent.clauses 𝓛 𝓜.mem 𝓡.returns κs a).ensures tt) (lent_met.met 𝓤 𝓛 𝓜 𝓡) (λ _ _ _ _. fact_mono 𝓤 _ _ (λ (e, f). lent-step _ e f));
+        on = told (λ κs a. (L.is_on.clauses 𝓛 𝓜.mem 𝓡.returns κs a).ensures tt) (L_code.is_on.Met.met 𝓤 𝓛 𝓜 𝓡) (λ _ _ _ _. fact_mono 𝓤 _ _ (λ e c a. rw e));
       }

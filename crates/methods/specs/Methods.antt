@@ -3,7 +3,8 @@ use Rattle.std.specs.Prelude.{◌≡◌, cond, List, []}
 use seplogic.Ra.Ura.{Ura}
 use base.Logic.{SProp, emp}
 use prog.Model.{Model}
-use prog.Routine.{Routine}
+use prog.Wired.{Code, Wired}
+use mir.Syntax.{Callee}
 use types.Logic.{Logic}
 use contract.Monad.{fact}
 use contract.Lifetimes.{Lfts}
@@ -13,8 +14,10 @@ use denote.Triple.Spec.{Meets}
 use denote.Triple.Clauses.{Ended, AtExit, Clauses, closing}
 use Rattle.phase_lists.specs.Lists.{lists_of}
 use Rattle.grammar.specs.Meaning.{descriptor, reading_of}
-use Rattle.line.proofs.Line as L
-use Rattle.lent.proofs.tick_in_place as lent
+use Rattle.line.specs.contracts.Line as L
+use Rattle.line.proofs.Line as L_code
+use Rattle.lent.specs.contracts.tick_in_place as lent
+use Rattle.lent.proofs.tick_in_place.Symbol as lent_code
 use Rattle.descriptor.specs.Refusals.{sound_configuration}
 use Rattle.demand.specs.Calls.{Call, ask, hook, period, no_period, audit, tick}
 use Rattle.demand.specs.Calls.{Answer, accepted, refused, ticked}
@@ -31,47 +34,47 @@ module _ {M : Type 1} {𝓤 : Ura M} (𝓛 : Logic 𝓤) (𝓜 : Model 𝓤 𝓛
   abbrev pub ensuring : (T : Ended) → Of T (SProp 𝓤) → Clauses 𝓤 T
   ensuring T c κs a = record { ghost = Unit {0}; requires = λ _. emp 𝓤; ensures = λ _. c κs a }
 
-  -- a function of this signature and code meets it
-  abbrev pub Meeting : (T : Ended) → Routine → Of T (SProp 𝓤) → Type 1
-  Meeting T code c = Meets 𝓛 T.signature (𝓡.run code) (closing 𝓛 T (ensuring T c))
+  -- a function of this signature and name meets it, wherever the names mean its code
+  abbrev pub Meeting : (T : Ended) → Callee → Code → Of T (SProp 𝓤) → Type 1
+  Meeting T name code c = Wired 𝓡.env code → Meets 𝓛 T.signature (𝓡.run (𝓡.env name)) (closing 𝓛 T (ensuring T c))
 
   -- whatever it is called with, it returns, and the claim holds
-  pub record Does (T : Ended) (code : Routine) (claim : Of T (Type 0)) : Type 1 where
-    pub does : Meeting T code (λ κs a r e. fact 𝓤 (claim κs a r e))
+  pub record Does (T : Ended) (name : Callee) (code : Code) (claim : Of T (Type 0)) : Type 1 where
+    pub does : Meeting T name code (λ κs a r e. fact 𝓤 (claim κs a r e))
 
   pub record Methods : Type 1 where
     -- it answers whether the configuration is taken, and its line begins the list
-    pub make : Does L.make.ended L.make.Symbol.routine
+    pub make : Does L.make.ended L_code.make.Symbol.name L_code.make.Symbol.code
         (λ _ (D, (G, (clock, _))) r _.
         (verdict_told r.verdict ≡ cond (sound_configuration D G) (accepted 0) (refused 1)) ×
         ((cs : List Call) → history D G clock cs ≡ entries (after_calls (past [] r.line) cs)))
-    pub describes : Does L.describe.ended L.describe.Symbol.routine
+    pub describes : Does L.describe.ended L_code.describe.Symbol.name L_code.describe.Symbol.code
         (λ _ (l, (t, (pri, (pcx, (repx, (pcn, (repn, (ci, (pd, (b, _)))))))))) r _.
         let ls = lists_of pri.now pcx.now repx.now pcn.now repn.now ci.now pd.now in
         step l (parts t ls b) ≡ answered r)
-    pub describes_text : Does L.describe_text.ended L.describe_text.Symbol.routine
+    pub describes_text : Does L.describe_text.ended L_code.describe_text.Symbol.name L_code.describe_text.Symbol.code
         (λ _ (l, (bytes, _)) r _. step l (text bytes.now) ≡ answered r)
-    pub asks : Does L.ask.ended L.ask.Symbol.routine
+    pub asks : Does L.ask.ended L_code.ask.Symbol.name L_code.ask.Symbol.code
         (λ _ (l, (t, (pri, (pcx, (repx, (pcn, (repn, (ci, (pd, (b, _)))))))))) r _.
         let ls = lists_of pri.now pcx.now repx.now pcn.now repn.now ci.now pd.now in
         step l (ask (descriptor t ls b)) ≡ ticketed r)
-    pub asks_text : Does L.ask_text.ended L.ask_text.Symbol.routine
+    pub asks_text : Does L.ask_text.ended L_code.ask_text.Symbol.name L_code.ask_text.Symbol.code
         (λ _ (l, (bytes, _)) r _. step l (ask (reading_of bytes.now)) ≡ ticketed r)
-    pub commits : Does L.commit.ended L.commit.Symbol.routine
+    pub commits : Does L.commit.ended L_code.commit.Symbol.name L_code.commit.Symbol.code
         (λ _ (l, (n, (t, (pri, (pcx, (repx, (pcn, (repn, (ci, (pd, (b, _))))))))))) r _.
         let ls = lists_of pri.now pcx.now repx.now pcn.now repn.now ci.now pd.now in
         step l (commit n (descriptor t ls b)) ≡ answered r)
-    pub commits_text : Does L.commit_text.ended L.commit_text.Symbol.routine
+    pub commits_text : Does L.commit_text.ended L_code.commit_text.Symbol.name L_code.commit_text.Symbol.code
         (λ _ (l, (n, (bytes, _))) r _. step l (commit n (reading_of bytes.now)) ≡ answered r)
-    pub hooks : Does L.hook.ended L.hook.Symbol.routine (λ _ (l, (k, _)) r _. step l (hook k) ≡ answered r)
-    pub periods : Does L.set_period.ended L.set_period.Symbol.routine
+    pub hooks : Does L.hook.ended L_code.hook.Symbol.name L_code.hook.Symbol.code (λ _ (l, (k, _)) r _. step l (hook k) ≡ answered r)
+    pub periods : Does L.set_period.ended L_code.set_period.Symbol.name L_code.set_period.Symbol.code
         (λ _ (l, (n, _)) r _. step l (period n) ≡ answered r)
-    pub clears : Does L.clear_period.ended L.clear_period.Symbol.routine (λ _ (l, _) r _. step l no_period ≡ answered r)
-    pub audits : Does L.audit.ended L.audit.Symbol.routine (λ _ (l, _) r _. step l audit ≡ audited r)
-    pub ticks : Does L.tick.ended L.tick.Symbol.routine (λ _ (l, _) r _. step l tick ≡ moved r)
+    pub clears : Does L.clear_period.ended L_code.clear_period.Symbol.name L_code.clear_period.Symbol.code (λ _ (l, _) r _. step l no_period ≡ answered r)
+    pub audits : Does L.audit.ended L_code.audit.Symbol.name L_code.audit.Symbol.code (λ _ (l, _) r _. step l audit ≡ audited r)
+    pub ticks : Does L.tick.ended L_code.tick.Symbol.name L_code.tick.Symbol.code (λ _ (l, _) r _. step l tick ≡ moved r)
     -- a tick on a lent record: l' is left where l was lent
-    pub lent : Does lent.ended lent.Symbol.routine
+    pub lent : Does lent.ended lent_code.name lent_code.code
         (λ _ (l, _) r (l', _). step l.now tick ≡ outcome (ticked r) l'.now)
     -- whether a pulse is on, in the entry of a call that leaves this line
-    pub on : Does L.is_on.ended L.is_on.Symbol.routine
+    pub on : Does L.is_on.ended L_code.is_on.Symbol.name L_code.is_on.Symbol.code
         (λ _ (l, _) r _. (c : Call) (a : Answer) → (entry_for c a l).on ≡ r)
