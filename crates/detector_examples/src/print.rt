@@ -4,18 +4,18 @@ ghost use Rattle.std.specs.Prelude.{nat_abs, ◌≡◌};
 use detector::Audited;
 use detector::notification::Notification;
 use detector::request::Answer;
-use libc::STDOUT_FILENO;
+use std::io;
 
-fn number(n: u64) {
-    io::print_decimal(STDOUT_FILENO, n);
+fn number(rt: &impl Print, n: u64) -> io::Result<()> {
+    print!(rt; "{n}")
 }
 
-fn blank() {
-    io::write_all(STDOUT_FILENO, b" ");
+fn blank(rt: &impl Print) -> io::Result<()> {
+    print!(rt; " ")
 }
 
-fn end_line() {
-    io::write_all(STDOUT_FILENO, b"\n");
+fn end_line(rt: &impl Print) -> io::Result<()> {
+    println!(rt; "")
 }
 
 // A number without its sign.
@@ -30,51 +30,47 @@ fn magnitude(n: i32) -> u64
     }
 }
 
-fn signed(n: i32) {
+fn signed(rt: &impl Print, n: i32) -> io::Result<()> {
     if n < 0 {
-        io::write_all(STDOUT_FILENO, b"-");
+        print!(rt; "-")?;
     }
-    number(magnitude(n));
+    number(rt, magnitude(n))
 }
 
 // ok, or no and the number.
-pub(crate) fn answer(a: Answer) {
+pub(crate) fn answer(rt: &impl Print, a: Answer) -> io::Result<()> {
     match a {
-        Answer::Accepted => {
-            io::write_all(STDOUT_FILENO, b"ok\n");
-        }
+        Answer::Accepted => println!(rt; "ok"),
         Answer::Refused(refusal) => {
-            io::write_all(STDOUT_FILENO, b"no ");
-            number(refusal.number() as u64);
-            end_line();
+            print!(rt; "no ")?;
+            number(rt, refusal.number() as u64)?;
+            end_line(rt)
         }
     }
 }
 
 // report, or event with its interval and count; no line for nothing.
-pub(crate) fn notification(n: Notification) {
+pub(crate) fn notification(rt: &impl Print, n: Notification) -> io::Result<()> {
     match n {
-        Notification::Nothing => {}
-        Notification::Report => {
-            io::write_all(STDOUT_FILENO, b"report\n");
-        }
+        Notification::Nothing => Ok(()),
+        Notification::Report => println!(rt; "report"),
         Notification::Event { interval, count } => {
-            io::write_all(STDOUT_FILENO, b"event ");
-            number(interval as u64);
-            blank();
-            number(count as u64);
-            end_line();
+            print!(rt; "event ")?;
+            number(rt, interval as u64)?;
+            blank(rt)?;
+            number(rt, count as u64)?;
+            end_line(rt)
         }
     }
 }
 
 // audit with lri, cpc and pcslr.
-pub(crate) fn audit(a: Audited) {
-    io::write_all(STDOUT_FILENO, b"audit ");
-    signed(a.lri);
-    blank();
-    number(a.cpc as u64);
-    blank();
-    number(a.pcslr as u64);
-    end_line();
+pub(crate) fn audit(rt: &impl Print, a: Audited) -> io::Result<()> {
+    print!(rt; "audit ")?;
+    signed(rt, a.lri)?;
+    blank(rt)?;
+    number(rt, a.cpc as u64)?;
+    blank(rt)?;
+    number(rt, a.pcslr as u64)?;
+    end_line(rt)
 }

@@ -1,6 +1,6 @@
 -- Bytes moved to the front one by one, and the room behind them.
-use mathlib.Core.Bool.{Bool, true, false}
-use mathlib.Core.Path.{◌≡◌, refl, sym, ap, subst, ◌∙◌}
+use mathlib.Core.Bool.{true}
+use mathlib.Core.Path.{◌≡◌, sym, ap, ◌∙◌}
 use mathlib.Core.List.{List, [], ◌∷◌, ◌++◌}
 use Prim.Native.Nat.{ℕ, suc, ◌+◌, ◌-◌, ◌/◌, ◌≤◌, ◌<◌, min}
 use native.Mathlib.Nat.{zero-add}
@@ -10,10 +10,9 @@ use borrow.Author.Tests.{le-leb, lt-leb, lt-ltb, le-ltb}
 use lib.ListN.{length, get_or, take, drop, set, length-drop}
 use lib.Seq.{take-nil, drop-nil, take_all, length-take-le, get_or-append-add, get_or-drop, paste-suc}
 use Rattle.lines.specs.declared.Input.{Input}
-use Rattle.lines.specs.Spans.{part, at_front, held, past_of}
+use Rattle.lines.specs.Spans.{part, at_front, held}
 use Rattle.lines.specs.Squeezing.{squeezed}
-use Rattle.lines.specs.Rooms.{is_full, fronted, room_of, fed_of}
-use Rattle.lines.specs.Reads.{More, Onward}
+use Rattle.lines.specs.Rooms.{is_full, fronted, room_of}
 use Rattle.lines.proofs.PartLaws.{length_part, part-clip}
 
 -- one more byte is moved: it is read where it stood at first, since no place past it was written
@@ -76,33 +75,3 @@ module _ (buf : List ℕ) (i : Input) (n : ℕ) (counted : n ≡ min i.end (leng
       room-squeezed l g =
           let short = le-ltb (length buf / 2) (length (squeezed buf)) (rw e at l) in
           (g ∙ rw (fills, all, short, e), f ∙ rw (fills, all, e))
-
--- what came is the difference of the ends
-pub refed : (i : Input) (size got : ℕ) → fed_of i size got ≡ fed_of i size ((fed_of i size got).end - i.end)
-refed i size got =
-    let same : min (i.end + min got (size - i.end) - i.end) (size - i.end) ≡ min got (size - i.end) = omega arith in
-    rw same
-
--- room is made, a read changes no byte before it, and what came is counted
-pub read_more : (buf mid after : List ℕ) (i room r : Input) (got : ℕ) → room ≡ room_of buf i → mid ≡ fronted buf i
-    → length after ≡ length buf → take room.end after ≡ take room.end mid → r ≡ fed_of room (length after) got → More buf i after r
-read_more buf mid after i room r got at_front moved size before came =
-    let R = room_of buf i in
-    let n = length buf in
-    let fresh : r ≡ fed_of R n got =
-    came ∙ ap (λ (x : Input). fed_of x (length after) got) at_front ∙ ap (λ (k : ℕ). fed_of R k got) size
-    in
-    record {
-      size = size;
-      kept = subst (λ (x : Input). take x.end after ≡ take x.end mid) at_front before ∙ ap (take R.end) moved;
-      fed = fresh ∙ refed R n got ∙ ap (λ (x : Input). fed_of R n (x.end - R.end)) (sym fresh);
-    }
-
-module _ (buf : List ℕ) (i : Input) (some : Bool) (to : ℕ) where
-  -- where there is a line, it is passed
-  pub on_line_lem : {r : Input} → some ≡ true → r ≡ past_of i to → Onward some to buf i buf r
-  on_line_lem e p = rw e (refl, p)
-
-  -- where there is none, more is read
-  pub on_read : {after : List ℕ} {r : Input} → some ≡ false → More buf i after r → Onward some to buf i after r
-  on_read e m = rw e m

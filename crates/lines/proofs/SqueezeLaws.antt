@@ -1,11 +1,10 @@
 -- Squeezing byte by byte, in place: what is kept stands at the front, and the bytes behind it are as they were.
-use mathlib.Core.Bool.{Bool, true, false, not}
+use mathlib.Core.Bool.{Bool, true, false}
 use mathlib.Core.Path.{◌≡◌, refl, sym, ap, ◌∙◌}
 use mathlib.Core.List.{List, [], ◌∷◌, ◌++◌, append-nil}
 use Prim.Native.Nat.{ℕ, suc, ◌+◌, ◌-◌, ◌≤◌, ◌<◌}
 use native.Mathlib.Numerals.{add-one}
 use native.Mathlib.Omega.{arith}
-use borrow.Author.Tests.{not-true, not-false}
 use lib.ListN.{length, get_or, drop, set, length-set, length-append, drop_of_length-le}
 use lib.Seq.{drop-cons, append_snoc, get_or-append-add, get_or-drop, set_at}
 use Rattle.lines.specs.declared.squeezing.Run.{Run}
@@ -90,9 +89,9 @@ module _ (d : List ℕ) (run : Run) (i j : ℕ) (buf : List ℕ) (s : Squeezing 
 
   module _ (redundant : Bool) (run' : Run) (i' : ℕ) (buf' : List ℕ) (h : j < length d) (e : redundant ≡ is_redundant run (get_or buf j 0)) (r : run' ≡ run_after run (get_or buf j 0)) where
     -- a turn of the loop that keeps the byte
-    pub kept-turn : not redundant ≡ true → buf' ≡ set buf i (get_or buf j 0) → i' ≡ i + 1 → Squeezing d run' i' (j + 1) buf'
-    kept-turn n b k = rw (r, b, k) (keep h (sym e ∙ not-true redundant n))
+    pub kept-turn : redundant ≡ false → buf' ≡ set buf i (get_or buf j 0) → i' ≡ i + 1 → Squeezing d run' i' (j + 1) buf'
+    kept-turn n b k = rw (r, b, k) (keep h (sym e ∙ n))
 
     -- and one that leaves it out
-    pub skipped_turn : not redundant ≡ false → buf' ≡ buf → i' ≡ i → Squeezing d run' i' (j + 1) buf'
-    skipped_turn n b k = rw (r, b, k) (skip h (sym e ∙ not-false redundant n))
+    pub skipped_turn : redundant ≡ true → buf' ≡ buf → i' ≡ i → Squeezing d run' i' (j + 1) buf'
+    skipped_turn n b k = rw (r, b, k) (skip h (sym e ∙ n))

@@ -1,5 +1,6 @@
 // The lines of an input that comes piece by piece into a lent buffer.
 #![tactic(auto)]
+
 ghost use Rattle.std.specs.Prelude.{◌≡◌, ◌||◌, min, ltb};
 ghost use Rattle.lines.specs.Spans.{at_front, begun, last_of, next_of, over_of, past_of};
 ghost use Rattle.lines.specs.Rooms.{fronted, room_of, fed_of};

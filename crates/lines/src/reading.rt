@@ -1,12 +1,13 @@
-// Reads of standard input into the buffer.
+// Reads of the input into the buffer.
 ghost use Rattle.std.specs.Prelude.{◌≡◌, ◌-◌, ◌≤◌, length, take};
 ghost use Rattle.lines.specs.Reads.{More, Onward};
 
 use super::{Input, Span};
-use libc::STDIN_FILENO;
+use std::io::Read;
 
-// Reads once, to the places from `end` on, and answers how many bytes came: 0 at the end of the input.
-fn read_once(buf: &mut [u8], end: usize) -> usize
+// Reads once, to the places from `end` on, and answers how many bytes came: 0 at the end of the input, and where the
+// read fails.
+fn read_once<R: Read>(from: &mut R, buf: &mut [u8], end: usize) -> usize
     ensures upper_bound { result ≤ length buf.old - end }
     ensures buf_unchanged { take end buf.new ≡ take end buf.old }
 {
@@ -14,27 +15,26 @@ fn read_once(buf: &mut [u8], end: usize) -> usize
         return 0;
     }
     let part = &mut buf[end..];
-    let got = libc::read(STDIN_FILENO, part);
-    io::count(got, part)
+    from.read(part).unwrap_or(0)
 }
 
 impl Input {
     // After one more read.
-    fn more(self, buf: &mut [u8]) -> Input
+    fn more<R: Read>(self, from: &mut R, buf: &mut [u8]) -> Input
         ensures { More buf.old self buf.new result }
     {
         let room = self.with_room(buf);
-        let got = read_once(buf, room.end);
+        let got = read_once(from, buf, room.end);
         room.fed(buf.len(), got)
     }
 
     // Past a line, or after one more read where there is none.
-    pub fn onward(self, buf: &mut [u8], line: Span) -> Input
+    pub fn onward<R: Read>(self, from: &mut R, buf: &mut [u8], line: Span) -> Input
         ensures { Onward line.some line.to buf.old self buf.new result }
     {
         if line.some {
             return self.past(line.to);
         }
-        self.more(buf)
+        self.more(from, buf)
     }
 }
