@@ -39,11 +39,11 @@ says "200 1 1${blanks}1 0 1 ${zeros}0" 'ok 0 3'
 says "at 0 commit ${zeros}2 SG{}${blanks}" 'no 16'
 says "at 0 commit 3$zeros SG{}" bad
 says "at 0 commit${blanks}${zeros}3${blanks}SG{${blanks}}" 'ok 0'
-tests/vectors.sh target/bin/card "$work/card.in"
+tests/vectors.sh crates/card/out/card "$work/card.in"
 
 script=texts
 says "SG{${blanks}amet/em{pri=${blanks}400}}" 'em 0 400 none'
 says "SG{amet/em{pri=${zeros}400}}" '12'
 says "SG{$letters}" 'too long'
 says "SG{}" 'none none'
-tests/vectors.sh target/bin/texts "$work/texts.in"
+tests/vectors.sh crates/texts/out/texts "$work/texts.in"

@@ -2,17 +2,19 @@
 use super::ticks::Progress;
 use super::{groups, output, runs};
 use line::{Answered, Asked, Line, Verdict};
+use outlet::Outlet;
 use phase_lines::Phases;
 use printing::Answer;
 use script::{CardCommand, Command, Giving};
+use std::io;
+use std::io::Stdout;
 
-// A card: room for its lines, how many there are, the ticks so far, and the bytes of output held back.
+// A card: room for its lines, how many there are, and the ticks so far.
 #[derive(Clone, Copy)]
 pub struct Card {
     pub lines: [Line; 65],
     pub count: usize,
     pub progress: Progress,
-    pub held: usize,
 }
 
 fn answer_of(verdict: Verdict) -> Answer {
@@ -30,16 +32,13 @@ impl Card {
             lines: [line; 65],
             count: 0,
             progress: Progress::new(),
-            held: 0,
         }
     }
 
     // With an answer put.
-    fn with_answer(self, answer: Answer, out: &mut [u8]) -> Card {
-        Card {
-            held: output::put_answer(out, self.held, answer),
-            ..self
-        }
+    fn with_answer(self, answer: Answer, out: &mut Outlet<Stdout>) -> io::Result<Card> {
+        output::put_answer(out, answer)?;
+        Ok(self)
     }
 
     // The line at a place of the row.
@@ -70,7 +69,12 @@ impl Card {
     }
 
     // With the line that a command handed back, and its answer put.
-    pub(crate) fn answered(self, place: u32, answer: Answered, out: &mut [u8]) -> Card {
+    pub(crate) fn answered(
+        self,
+        place: u32,
+        answer: Answered,
+        out: &mut Outlet<Stdout>,
+    ) -> io::Result<Card> {
         let line = answer.line;
         let verdict = answer.verdict;
         let after = self.with_line(place as usize, line);
@@ -78,18 +82,27 @@ impl Card {
     }
 
     // With the line that was asked, and what it told put.
-    pub(crate) fn asked(self, place: u32, told: Asked, out: &mut [u8]) -> Card {
+    pub(crate) fn asked(
+        self,
+        place: u32,
+        told: Asked,
+        out: &mut Outlet<Stdout>,
+    ) -> io::Result<Card> {
         let line = told.line;
         let verdict = told.verdict;
         let after = self.with_line(place as usize, line);
-        Card {
-            held: output::put_asked(out, after.held, answer_of(verdict), told.ticket),
-            ..after
-        }
+        output::put_asked(out, answer_of(verdict), told.ticket)?;
+        Ok(after)
     }
 
     // One more line at the end of the row. A refused configuration adds none.
-    fn configured(self, pulse: u32, gap: u32, clock: u32, out: &mut [u8]) -> Card {
+    fn configured(
+        self,
+        pulse: u32,
+        gap: u32,
+        clock: u32,
+        out: &mut Outlet<Stdout>,
+    ) -> io::Result<Card> {
         if self.count >= 65 {
             return self.with_answer(Answer::Bad, out);
         }
@@ -112,8 +125,8 @@ impl Card {
         giving: Giving,
         command: Command,
         phases: Phases,
-        out: &mut [u8],
-    ) -> Card {
+        out: &mut Outlet<Stdout>,
+    ) -> io::Result<Card> {
         let line = self.line_at(place);
         match command {
             Command::Period(rp) => self.answered(place, line.set_period(rp), out),
@@ -135,18 +148,16 @@ impl Card {
     }
 
     // The counters of the line at a place, put.
-    fn audited(self, place: u32, out: &mut [u8]) -> Card {
+    fn audited(self, place: u32, out: &mut Outlet<Stdout>) -> io::Result<Card> {
         let line = self.line_at(place);
         let audit = line.audit();
         let after = self.with_line(place as usize, audit.line);
-        Card {
-            held: output::put_counters(out, after.held, audit.cpc, audit.pcslr),
-            ..after
-        }
+        output::put_counters(out, audit.cpc, audit.pcslr)?;
+        Ok(after)
     }
 
     // With the lines that a group's rate leaves, and its answer put. The places stand in the command's own line.
-    fn grouped(self, interval: u32, text: &[u8], out: &mut [u8]) -> Card {
+    fn grouped(self, interval: u32, text: &[u8], out: &mut Outlet<Stdout>) -> io::Result<Card> {
         let held = self.lines;
         let after = groups::rate(held, self.count, text, interval);
         let lines = after.lines;
@@ -161,8 +172,8 @@ impl Card {
         command: CardCommand,
         phases: Phases,
         text: &[u8],
-        out: &mut [u8],
-    ) -> Card {
+        out: &mut Outlet<Stdout>,
+    ) -> io::Result<Card> {
         match command {
             CardCommand::Bad => self.with_answer(Answer::Bad, out),
             CardCommand::Configure { pulse, gap, clock } => self.configured(pulse, gap, clock, out),
@@ -183,8 +194,8 @@ impl Card {
     }
 
     // With all output written.
-    pub(crate) fn flushed(self, out: &[u8]) -> Card {
-        output::flush(out, self.held);
-        Card { held: 0, ..self }
+    pub(crate) fn flushed(self, out: &mut Outlet<Stdout>) -> io::Result<Card> {
+        out.flush()?;
+        Ok(self)
     }
 }

@@ -1,8 +1,11 @@
 // A descriptor on a line of a card, which takes it, is asked for it, or has it committed.
 use super::cards::Card;
 use descriptor::{BurstPart, TariffPart};
+use outlet::Outlet;
 use phase_lines::Phases;
 use script::Giving;
+use std::io;
+use std::io::Stdout;
 
 // The text of a line of a script, from a byte on.
 fn text_from(text: &[u8], from: usize) -> &[u8] {
@@ -21,8 +24,8 @@ impl Card {
         tariff: TariffPart,
         phases: Phases,
         burst: BurstPart,
-        out: &mut [u8],
-    ) -> Card {
+        out: &mut Outlet<Stdout>,
+    ) -> io::Result<Card> {
         let line = self.line_at(place);
         match giving {
             Giving::Take => self.answered(place, phases.describe(line, tariff, burst), out),
@@ -40,8 +43,8 @@ impl Card {
         giving: Giving,
         words: &[u8],
         from: usize,
-        out: &mut [u8],
-    ) -> Card {
+        out: &mut Outlet<Stdout>,
+    ) -> io::Result<Card> {
         let line = self.line_at(place);
         let text = text_from(words, from);
         match giving {

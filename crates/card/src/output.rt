@@ -1,14 +1,9 @@
-// Standard output by way of a lent buffer, of which the bytes before `at` are held back.
+// Standard output, by way of its buffer.
 use dispatcher::Waiting;
-use libc::STDOUT_FILENO;
+use outlet::Outlet;
 use printing::{Answer, Written};
-
-// Writes out what is held back.
-pub(crate) fn flush(buf: &[u8], at: usize) {
-    if at <= buf.len() {
-        io::write_all(STDOUT_FILENO, &buf[0..at]);
-    }
-}
+use std::io;
+use std::io::Stdout;
 
 // The place after a text that was put at the front of an empty buffer.
 fn first(written: Written) -> usize {
@@ -19,39 +14,45 @@ fn first(written: Written) -> usize {
 }
 
 // Puts an answer; a full buffer is written out first.
-pub(crate) fn put_answer(buf: &mut [u8], at: usize, answer: Answer) -> usize {
-    let written = printing::put_answer(buf, at, answer);
+pub(crate) fn put_answer(out: &mut Outlet<Stdout>, answer: Answer) -> io::Result<()> {
+    let at = out.held;
+    let written = printing::put_answer(&mut out.buf, at, answer);
     match written {
-        Written::Next(next) => next,
+        Written::Next(next) => out.held = next,
         Written::Full => {
-            flush(buf, at);
-            first(printing::put_answer(buf, 0, answer))
+            out.flush()?;
+            out.held = first(printing::put_answer(&mut out.buf, 0, answer));
         }
     }
+    Ok(())
 }
 
 // Puts what asking tells; a full buffer is written out first.
-pub(crate) fn put_asked(buf: &mut [u8], at: usize, answer: Answer, ticket: u32) -> usize {
-    let written = printing::put_asked(buf, at, answer, ticket);
+pub(crate) fn put_asked(out: &mut Outlet<Stdout>, answer: Answer, ticket: u32) -> io::Result<()> {
+    let at = out.held;
+    let written = printing::put_asked(&mut out.buf, at, answer, ticket);
     match written {
-        Written::Next(next) => next,
+        Written::Next(next) => out.held = next,
         Written::Full => {
-            flush(buf, at);
-            first(printing::put_asked(buf, 0, answer, ticket))
+            out.flush()?;
+            out.held = first(printing::put_asked(&mut out.buf, 0, answer, ticket));
         }
     }
+    Ok(())
 }
 
 // Puts the counters of a line; a full buffer is written out first.
-pub(crate) fn put_counters(buf: &mut [u8], at: usize, cpc: u32, pcslr: u32) -> usize {
-    let written = printing::put_counters(buf, at, cpc, pcslr);
+pub(crate) fn put_counters(out: &mut Outlet<Stdout>, cpc: u32, pcslr: u32) -> io::Result<()> {
+    let at = out.held;
+    let written = printing::put_counters(&mut out.buf, at, cpc, pcslr);
     match written {
-        Written::Next(next) => next,
+        Written::Next(next) => out.held = next,
         Written::Full => {
-            flush(buf, at);
-            first(printing::put_counters(buf, 0, cpc, pcslr))
+            out.flush()?;
+            out.held = first(printing::put_counters(&mut out.buf, 0, cpc, pcslr));
         }
     }
+    Ok(())
 }
 
 // Puts a notice, if there is room.
@@ -60,13 +61,20 @@ fn notice(buf: &mut [u8], at: usize, tick: u32, place: u32, told: Waiting) -> Wr
 }
 
 // Puts a notice; a full buffer is written out first.
-pub(crate) fn put_notice(buf: &mut [u8], at: usize, tick: u32, place: u32, told: Waiting) -> usize {
-    let written = notice(buf, at, tick, place, told);
+pub(crate) fn put_notice(
+    out: &mut Outlet<Stdout>,
+    tick: u32,
+    place: u32,
+    told: Waiting,
+) -> io::Result<()> {
+    let at = out.held;
+    let written = notice(&mut out.buf, at, tick, place, told);
     match written {
-        Written::Next(next) => next,
+        Written::Next(next) => out.held = next,
         Written::Full => {
-            flush(buf, at);
-            first(notice(buf, 0, tick, place, told))
+            out.flush()?;
+            out.held = first(notice(&mut out.buf, 0, tick, place, told));
         }
     }
+    Ok(())
 }

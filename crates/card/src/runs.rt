@@ -5,7 +5,10 @@ use super::cards::Card;
 use super::ticks::Progress;
 use super::{output, ticks};
 use dispatcher::{Reply, Sent};
+use outlet::Outlet;
 use printing::Answer;
+use std::io;
+use std::io::Stdout;
 
 // A place of the row, as it is printed.
 fn printed(place: usize) -> u32 {
@@ -13,14 +16,14 @@ fn printed(place: usize) -> u32 {
 }
 
 // Puts what a run of ticks ended with: a notice, a refusal, or nothing.
-fn put_reply(out: &mut [u8], at: usize, progress: Progress) -> usize {
+fn put_reply(out: &mut Outlet<Stdout>, progress: Progress) -> io::Result<()> {
     let reply = progress.reply;
     match reply {
-        Reply::Refuses(why) => output::put_answer(out, at, Answer::No(why.number())),
+        Reply::Refuses(why) => output::put_answer(out, Answer::No(why.number())),
         Reply::Sends(sent) => match sent {
-            Sent::Quiet => at,
+            Sent::Quiet => Ok(()),
             Sent::Notice { place, told } => {
-                output::put_notice(out, at, progress.ticks, printed(place), told)
+                output::put_notice(out, progress.ticks, printed(place), told)
             }
         },
     }
@@ -37,23 +40,21 @@ fn fewer(n: u32, rest: u32) -> u32
 }
 
 // Ticks a card n times, and puts each notice.
-pub(crate) fn run(card: Card, n: u32, out: &mut [u8]) -> Card {
+pub(crate) fn run(card: Card, n: u32, out: &mut Outlet<Stdout>) -> io::Result<Card> {
     let count = card.count;
     let mut lines = card.lines;
     let mut progress = card.progress;
-    let mut at = card.held;
     let mut left = n;
     while left > 0 {
         let ran = ticks::ticked(lines, count, progress.with(left));
         lines = ran.lines;
         progress = ran.progress;
-        at = put_reply(out, at, progress);
+        put_reply(out, progress)?;
         left = fewer(left, progress.rest);
     }
-    Card {
+    Ok(Card {
         lines,
         count,
         progress,
-        held: at,
-    }
+    })
 }

@@ -1,11 +1,13 @@
 // Ticks a line where it lies, or a row of 64, for timing: twenty rounds of the case that standard input names, of 7,200,000 ticks each.
 #![tactic(auto)]
+
 ghost use Rattle.std.specs.Prelude.{◌≡◌};
 ghost use Rattle.lent_ticks.specs.Runs.{after_ticks, row_after, ticked_all};
 
 use descriptor::{BurstPart, TariffPart};
-use libc::{STDIN_FILENO, STDOUT_FILENO};
 use line::Line;
+use std::io;
+use std::io::Read;
 
 const TICKS: u32 = 7200000;
 
@@ -115,7 +117,7 @@ fn row_sum(row: [Line; 64]) -> u64 {
     let mut total: u64 = 0;
     let mut i: usize = 0;
     while i < 64 {
-        total = std::num::wrapping_add_u64(total, counted(row[i]));
+        total = total.wrapping_add(counted(row[i]));
         i += 1;
     }
     total
@@ -152,24 +154,37 @@ fn way_of(letter: u8) -> Way {
     Way::Lent
 }
 
+// Reads until the buffer is full or the input ends.
+fn read_full(from: &mut impl Read, buf: &mut [u8]) -> io::Result<()> {
+    let mut done = 0;
+    while done < buf.len() {
+        let got = from.read(&mut buf[done..])?;
+        if got == 0 {
+            break;
+        }
+        done += got;
+    }
+    Ok(())
+}
+
 // What standard input asks for: a case; or `row` or `val`, and a case.
-fn asked() -> Case {
-    let mut buf = io::buffer();
-    let got = io::read_full(STDIN_FILENO, &mut buf);
+fn asked(from: &mut impl Read) -> io::Result<Case> {
+    let mut buf = [0u8; 4096];
+    read_full(from, &mut buf)?;
     let way = way_of(buf[0]);
     match way {
-        Way::Lent => Case {
+        Way::Lent => Ok(Case {
             letter: buf[0],
             way,
-        },
-        Way::Row => Case {
+        }),
+        Way::Row => Ok(Case {
             letter: buf[4],
             way,
-        },
-        Way::Value => Case {
+        }),
+        Way::Value => Ok(Case {
             letter: buf[4],
             way,
-        },
+        }),
     }
 }
 
@@ -187,16 +202,16 @@ fn all_pulses(line: Line, way: Way) -> u64 {
     let mut total: u64 = 0;
     let mut left: u32 = 20;
     while left > 0 {
-        total = std::num::wrapping_add_u64(total, round(line, way));
+        total = total.wrapping_add(round(line, way));
         left -= 1;
     }
     total
 }
 
-fn main() {
-    let what = asked();
+fn main(rt: HostRuntime) -> io::Result<()> {
+    let what = asked(&mut rt.stdin())?;
     let way = what.way;
     let line = line_of(what.letter);
-    io::print_decimal(STDOUT_FILENO, all_pulses(line, way));
-    io::write_all(STDOUT_FILENO, b"\n");
+    let pulses = all_pulses(line, way);
+    println!(rt; "{pulses}")
 }

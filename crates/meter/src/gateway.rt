@@ -2,17 +2,19 @@
 use super::output;
 use answers::{Front, Tick};
 use line::{Answered, Line, Verdict};
+use outlet::Outlet;
 use phase_lines::Phases;
 use printing::Answer;
 use script::Command;
 use state::{Moved, State};
+use std::io;
+use std::io::Stdout;
 
-// A gateway: its line, once a configuration was accepted, and the bytes of output held back.
+// A gateway: its line, once a configuration was accepted.
 #[derive(Clone, Copy)]
 pub struct Gateway {
     pub made: bool,
     pub line: Line,
-    pub held: usize,
 }
 
 fn answer_of(verdict: Verdict) -> Answer {
@@ -66,75 +68,72 @@ fn moved(line: Line, state: State) -> Moved {
 }
 
 // Puts what a tick tells, if it tells something.
-fn put_moved(out: &mut [u8], at: usize, m: Moved) -> usize {
+fn put_moved(out: &mut Outlet<Stdout>, m: Moved) -> io::Result<()> {
     let tick = m.tick;
     if tells(tick) {
         let state = m.state;
         let counters = state.counters;
-        return output::put_tick(out, at, state.clock, counters.cpc, tick);
+        return output::put_tick(out, state.clock, counters.cpc, tick);
     }
-    at
+    Ok(())
 }
 
 // Ticks a line n times, which is made then, and puts what each tick tells. The line itself is looked at only where a
 // tick is busy.
-fn run(line: Line, n: u32, out: &mut [u8], held: usize) -> Gateway {
+fn run(line: Line, n: u32, out: &mut Outlet<Stdout>) -> io::Result<Gateway> {
     let pulse = line.pulse;
     let spacing = line.spacing;
     let mut state = line.state;
-    let mut at = held;
     let mut i: u32 = 0;
     while i < n {
         let q = state.quick(pulse, spacing);
         if q.busy {
             let m = moved(line, state);
             state = m.state;
-            at = put_moved(out, at, m);
+            put_moved(out, m)?;
         } else {
             let m = q.moved;
             state = m.state;
         }
         i += 1;
     }
-    Gateway {
+    Ok(Gateway {
         made: true,
         line: Line { state, ..line },
-        held: at,
-    }
+    })
 }
 
 impl Gateway {
     pub(crate) fn new() -> Gateway {
         let blank = Line::make(0, 0, 0);
         let line = blank.line;
-        Gateway {
-            made: false,
-            line,
-            held: 0,
-        }
+        Gateway { made: false, line }
     }
 
     // With `bad` put.
-    fn refused(self, out: &mut [u8]) -> Gateway {
-        Gateway {
-            held: output::put_answer(out, self.held, Answer::Bad),
-            ..self
-        }
+    fn refused(self, out: &mut Outlet<Stdout>) -> io::Result<Gateway> {
+        output::put_answer(out, Answer::Bad)?;
+        Ok(self)
     }
 
     // With the line that a command handed back, and its answer put.
-    fn answered(self, answer: Answered, out: &mut [u8]) -> Gateway {
+    fn answered(self, answer: Answered, out: &mut Outlet<Stdout>) -> io::Result<Gateway> {
         let line = answer.line;
         let verdict = answer.verdict;
-        Gateway {
+        output::put_answer(out, answer_of(verdict))?;
+        Ok(Gateway {
             made: is_made(self.made, verdict),
             line,
-            held: output::put_answer(out, self.held, answer_of(verdict)),
-        }
+        })
     }
 
     // Does what a command asks for, a descriptor with the phases that were read.
-    pub(crate) fn obey(self, command: Command, phases: Phases, out: &mut [u8]) -> Gateway {
+    pub(crate) fn obey(
+        self,
+        command: Command,
+        phases: Phases,
+        out: &mut Outlet<Stdout>,
+    ) -> io::Result<Gateway> {
         let line = self.line;
         match command {
             Command::Bad => self.refused(out),
@@ -149,13 +148,13 @@ impl Gateway {
                 burst,
             } => self.answered(phases.describe(line, tariff, burst), out),
             Command::OnHook(event) => self.answered(line.hook(event), out),
-            Command::Run(ticks) => run(line, ticks, out, self.held),
+            Command::Run(ticks) => run(line, ticks, out),
         }
     }
 
     // With all output written.
-    pub(crate) fn flushed(self, out: &[u8]) -> Gateway {
-        output::flush(out, self.held);
-        Gateway { held: 0, ..self }
+    pub(crate) fn flushed(self, out: &mut Outlet<Stdout>) -> io::Result<Gateway> {
+        out.flush()?;
+        Ok(self)
     }
 }

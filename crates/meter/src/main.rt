@@ -1,13 +1,17 @@
 // Runs a script of metering commands from standard input, and prints what the line answers and tells.
 #![tactic(auto)]
+
 mod gateway;
 mod output;
 mod reader;
 
 use gateway::Gateway;
 use lines::{Input, Span};
+use outlet::Outlet;
 use printing::Answer;
 use reader::Reader;
+use std::io;
+use std::io::{Stdin, Stdout};
 
 // Reads the line of the script that stands at a span of the buffer, if there is one. A line that is too long is read as
 // an empty one.
@@ -22,7 +26,12 @@ fn read_line(reader: Reader, inp: &[u8], span: Span, made: bool) -> Reader {
 }
 
 // Obeys a line that was read. Where there is none, all output is written before more is read.
-fn react(gateway: Gateway, reader: Reader, some: bool, out: &mut [u8]) -> Gateway {
+fn react(
+    gateway: Gateway,
+    reader: Reader,
+    some: bool,
+    out: &mut Outlet<Stdout>,
+) -> io::Result<Gateway> {
     if some {
         let command = reader.command;
         let phases = reader.phases;
@@ -32,41 +41,40 @@ fn react(gateway: Gateway, reader: Reader, some: bool, out: &mut [u8]) -> Gatewa
 }
 
 // At the end of the input, a descriptor whose phase lines are missing is bad.
-fn put_last(out: &mut [u8], held: usize, missing: u32) -> usize {
+fn put_last(out: &mut Outlet<Stdout>, missing: u32) -> io::Result<()> {
     if missing == 0 {
-        return held;
+        return Ok(());
     }
-    output::put_answer(out, held, Answer::Bad)
+    output::put_answer(out, Answer::Bad)
 }
 
 // Writes all output at the end of the input.
-fn close(out: &mut [u8], held: usize, missing: u32) {
-    let at = put_last(out, held, missing);
-    output::flush(out, at);
+fn close(out: &mut Outlet<Stdout>, missing: u32) -> io::Result<()> {
+    put_last(out, missing)?;
+    out.flush()
 }
 
 // Reads and obeys until the input ends. A proved loop has to end, and nothing says that the input does: the steps are
-// counted down from a number that no run uses up.
-fn serve(inp: &mut [u8], out: &mut [u8]) {
+// counted up to a number that no run reaches.
+fn serve(from: &mut Stdin, inp: &mut [u8], out: &mut Outlet<Stdout>) -> io::Result<()> {
     let mut gateway = Gateway::new();
     let mut reader = Reader::new();
     let mut input = Input::new();
-    let mut steps = u64::MAX;
-    while steps > 0 {
-        steps -= 1;
+    for _ in 0..u64::MAX {
         let span = input.next(inp);
         if input.is_over(span.some) {
-            close(out, gateway.held, reader.missing);
-            return;
+            return close(out, reader.missing);
         }
         reader = read_line(reader, inp, span, gateway.made);
-        gateway = react(gateway, reader, span.some, out);
-        input = input.onward(inp, span);
+        gateway = react(gateway, reader, span.some, out)?;
+        input = input.onward(from, inp, span);
     }
+    Ok(())
 }
 
-fn main() {
-    let mut inp = io::large_buffer();
-    let mut out = io::large_buffer();
-    serve(&mut inp, &mut out);
+fn main(rt: HostRuntime) -> io::Result<()> {
+    let mut from = rt.stdin();
+    let mut inp = [0u8; 65536];
+    let mut out = Outlet::new(rt.stdout());
+    serve(&mut from, &mut inp, &mut out)
 }

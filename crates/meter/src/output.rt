@@ -1,14 +1,9 @@
-// Standard output by way of a lent buffer, of which the bytes before `at` are held back.
+// Standard output, by way of its buffer.
 use answers::Tick;
-use libc::STDOUT_FILENO;
+use outlet::Outlet;
 use printing::{Answer, Written};
-
-// Writes out what is held back.
-pub(crate) fn flush(buf: &[u8], at: usize) {
-    if at <= buf.len() {
-        io::write_all(STDOUT_FILENO, &buf[0..at]);
-    }
-}
+use std::io;
+use std::io::Stdout;
 
 // The place after a text that was put at the front of an empty buffer.
 fn first(written: Written) -> usize {
@@ -19,25 +14,34 @@ fn first(written: Written) -> usize {
 }
 
 // Puts an answer; a full buffer is written out first.
-pub(crate) fn put_answer(buf: &mut [u8], at: usize, answer: Answer) -> usize {
-    let written = printing::put_answer(buf, at, answer);
+pub(crate) fn put_answer(out: &mut Outlet<Stdout>, answer: Answer) -> io::Result<()> {
+    let at = out.held;
+    let written = printing::put_answer(&mut out.buf, at, answer);
     match written {
-        Written::Next(next) => next,
+        Written::Next(next) => out.held = next,
         Written::Full => {
-            flush(buf, at);
-            first(printing::put_answer(buf, 0, answer))
+            out.flush()?;
+            out.held = first(printing::put_answer(&mut out.buf, 0, answer));
         }
     }
+    Ok(())
 }
 
 // Puts what a tick tells; a full buffer is written out first.
-pub(crate) fn put_tick(buf: &mut [u8], at: usize, clock: u32, cpc: u32, tick: Tick) -> usize {
-    let written = printing::put_tick(buf, at, clock, cpc, tick);
+pub(crate) fn put_tick(
+    out: &mut Outlet<Stdout>,
+    clock: u32,
+    cpc: u32,
+    tick: Tick,
+) -> io::Result<()> {
+    let at = out.held;
+    let written = printing::put_tick(&mut out.buf, at, clock, cpc, tick);
     match written {
-        Written::Next(next) => next,
+        Written::Next(next) => out.held = next,
         Written::Full => {
-            flush(buf, at);
-            first(printing::put_tick(buf, 0, clock, cpc, tick))
+            out.flush()?;
+            out.held = first(printing::put_tick(&mut out.buf, 0, clock, cpc, tick));
         }
     }
+    Ok(())
 }

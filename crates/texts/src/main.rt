@@ -1,41 +1,43 @@
 // Reads texts of controllers from standard input, one a line, and prints what each reads as.
 #![tactic(auto)]
+
 mod output;
 mod readings;
 
 use lines::{Input, Span};
+use outlet::Outlet;
+use std::io;
+use std::io::{Stdin, Stdout};
 
 // Puts what a line reads as. Where there is no line yet, all output is written before more is read.
-fn answer(inp: &[u8], line: Span, out: &mut [u8], at: usize) -> usize {
+fn answer(inp: &[u8], line: Span, out: &mut Outlet<Stdout>) -> io::Result<()> {
     if !line.some {
-        output::flush(out, at);
-        return 0;
+        return out.flush();
     }
     if line.whole {
-        return readings::put_reading(out, at, lines::text(inp, line));
+        return readings::put_reading(out, lines::text(inp, line));
     }
-    output::put_text(out, at, b"too long\n")
+    output::put_text(out, b"too long\n")
 }
 
 // Reads and answers until the input ends. A proved loop has to end, and nothing says that the input does: the steps are
-// counted down from a number that no run uses up.
-fn serve(inp: &mut [u8], out: &mut [u8]) {
+// counted up to a number that no run reaches.
+fn serve(from: &mut Stdin, inp: &mut [u8], out: &mut Outlet<Stdout>) -> io::Result<()> {
     let mut input = Input::new();
-    let mut at: usize = 0;
-    let mut steps = u64::MAX;
-    while steps > 0 {
-        steps -= 1;
+    for _ in 0..u64::MAX {
         let line = input.next(inp);
-        at = answer(inp, line, out, at);
+        answer(inp, line, out)?;
         if input.is_over(line.some) {
-            return;
+            return Ok(());
         }
-        input = input.onward(inp, line);
+        input = input.onward(from, inp, line);
     }
+    Ok(())
 }
 
-fn main() {
-    let mut inp = io::large_buffer();
-    let mut out = io::large_buffer();
-    serve(&mut inp, &mut out);
+fn main(rt: HostRuntime) -> io::Result<()> {
+    let mut from = rt.stdin();
+    let mut inp = [0u8; 65536];
+    let mut out = Outlet::new(rt.stdout());
+    serve(&mut from, &mut inp, &mut out)
 }
