@@ -92,7 +92,8 @@ pub collision-sent :
     ≡ done ∷ done ∷ sends (Notice 0 (reports_only 1)) ∷ sends Quiet ∷ sends Quiet ∷ done ∷ sends Quiet
     ∷ done ∷ done ∷ sends (Notice 1 (reports_only 1))
     ∷ sends (Notice 2 tariff_mark) ∷ sends (Notice 0 (reports_only 1)) ∷ sends Quiet ∷ []
-unfolding card_past after_card_calls row_after after_calls step fresh_dispatcher gather_all first_from make_of fresh_line
+unfolding card_past after_card_calls row_after after_calls step
+    fresh_dispatcher gather_all first_from make_of fresh_line
     describe_of ruling sound_em distance_of tariff_changed burst_changed em_of period_of tick_of moved_by step_of due_of
     after_counted completes_of aged_of count_of count_by since_front burst_after
 collision-sent = refl
@@ -101,7 +102,8 @@ collision-sent = refl
 pub collision-left :
     map (left (card_history (replicate 3 making) collision)) (0 ∷ 1 ∷ 2 ∷ [])
     ≡ reports_only 1 ∷ nothing ∷ tariff_mark ∷ []
-unfolding since card_past after_card_calls row_after after_calls step fresh_dispatcher gather_all first_from make_of fresh_line
+unfolding since card_past after_card_calls row_after after_calls step
+    fresh_dispatcher gather_all first_from make_of fresh_line
     describe_of ruling sound_em distance_of tariff_changed burst_changed em_of period_of tick_of moved_by step_of due_of
     after_counted completes_of aged_of count_of count_by since_front burst_after
 collision-left = refl
@@ -111,7 +113,8 @@ pub lengths :
     replies (replicate 65 making)
     (tick_row 0 ∷ tick_row 65 ∷ tick_row 2 ∷ tick_row 3 ∷ tick_row 1 ∷ tick_row 0 ∷ tick_row 2 ∷ [])
     ≡ refuses 14 ∷ refuses 14 ∷ sends Quiet ∷ refuses 14 ∷ refuses 14 ∷ refuses 14 ∷ sends Quiet ∷ []
-unfolding card_past after_card_calls row_after after_calls step fresh_dispatcher gather_all first_from make_of fresh_line tick_of
+unfolding card_past after_card_calls row_after after_calls step fresh_dispatcher
+    gather_all first_from make_of fresh_line tick_of
     moved_by step_of due_of completes_of aged_of count_by since_front burst_after
 lengths = refl
 
@@ -133,7 +136,8 @@ answers ms cs i = map (λ e. e.answer) (reverse (line_history (card_history ms c
 pub all_take :
     map (answers three (running ++ (group 3 (1 ∷ 0 ∷ 1 ∷ []) 9 ∷ group 3 [] 9 ∷ []))) (0 ∷ 1 ∷ 2 ∷ [])
     ≡ (accepted 0 ∷ accepted 0 ∷ []) ∷ (accepted 0 ∷ accepted 0 ∷ []) ∷ [] ∷ []
-unfolding line_history card_past after_card_calls row_after after_calls step fresh_dispatcher named outside first_refusal
+unfolding line_history card_past after_card_calls row_after after_calls
+    step fresh_dispatcher named outside first_refusal
     verdict_of make_of fresh_line describe_of ruling sound_em distance_of tariff_changed burst_changed em_of rate_of
 all_take = refl
 
@@ -147,12 +151,14 @@ refused_groups =
 pub first-refusal :
     replies three (running ++ refused_groups)
     ≡ done ∷ done ∷ refuses 4 ∷ refuses 3 ∷ refuses 15 ∷ refuses 15 ∷ refuses 14 ∷ []
-unfolding card_past after_card_calls row_after after_calls step outside first_refusal verdict_of make_of fresh_line describe_of
+unfolding card_past after_card_calls row_after after_calls step outside
+    first_refusal verdict_of make_of fresh_line describe_of
     ruling sound_em distance_of tariff_changed burst_changed em_of
 first-refusal = refl
 
 -- and the line at place 0, which would take 6 ticks, stays as it is with all others
 pub none-changes : (card_past three (running ++ refused_groups)).card ≡ (card_past three running).card
-unfolding card_past after_card_calls row_after after_calls step outside first_refusal verdict_of make_of fresh_line describe_of
+unfolding card_past after_card_calls row_after after_calls step outside
+    first_refusal verdict_of make_of fresh_line describe_of
     ruling sound_em distance_of tariff_changed burst_changed em_of
 none-changes = refl

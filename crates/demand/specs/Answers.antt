@@ -28,7 +28,8 @@ module _ (D S : ℕ) (h : List Entry) where
 
   -- what the table of refusals makes of a command
   abbrev pub ruling_after : Call → Ruling
-  ruling_after c = ruling (causes S (runs_endless (running D S h)) (burst_runs D (burst_in h) (ticks h)) (serial_in h) c)
+  ruling_after c =
+      ruling (causes S (runs_endless (running D S h)) (burst_runs D (burst_in h) (ticks h)) (serial_in h) c)
 
   -- the burst pulses cancelled, or the number of the refusal
   abbrev pub command_answer : Call → Answer

@@ -8,7 +8,8 @@ use Rattle.demand.specs.Calls.{Asked, asks}
 
 -- what the call of an entry asked; a refused call gets no more than an audit
 abbrev pub unless_refused : Answer → Asked → Asked
-unless_refused a x = elim a [ accepted k ↦ x | refused n ↦ asks audit | asked w n ↦ x | counters m n ↦ x | ticked t ↦ x ]
+unless_refused a x =
+    elim a [ accepted k ↦ x | refused n ↦ asks audit | asked w n ↦ x | counters m n ↦ x | ticked t ↦ x ]
 
 abbrev pub granted : Entry → Asked
 granted e = unless_refused e.answer (asks e.call)
@@ -119,7 +120,8 @@ zeroed_by t n = elim t [ NoTariff ↦ n | KeepTariff ↦ n | Rate P ↦ n | Em C
 -- the fronts since the last accepted fresh em, or since the start
 unfoldable pub fronts_since_em : List Entry → ℕ
 fronts_since_em [] = 0
-fronts_since_em (e ∷ h) = zeroed_by (granted e).tariff (if_front (front_of e) (fronts_since_em h + 1) (fronts_since_em h))
+fronts_since_em (e ∷ h) =
+    zeroed_by (granted e).tariff (if_front (front_of e) (fronts_since_em h + 1) (fronts_since_em h))
 
 -- pcslr: the pulses since the last report
 unfoldable pub since_report : List Entry → ℕ

@@ -50,7 +50,8 @@ module _ (S : ℕ) (endlessRuns burst_runs : Bool) where
   tariff_causes KeepTariff ls = []
   tariff_causes (Rate P) ls = cause NoEndlessEm (not endlessRuns) ∷ cause Interval (not (sound_em S 0 P)) ∷ []
   tariff_causes (Em C P) ls = cause Interval (not (sound_em S C P)) ∷ []
-  tariff_causes Phased ls = cause PhaseLists (not (sound_lists ls)) ∷ cause Phase (not (sound_phases S (phases_of ls))) ∷ []
+  tariff_causes Phased ls =
+      cause PhaseLists (not (sound_lists ls)) ∷ cause Phase (not (sound_phases S (phases_of ls))) ∷ []
 
   abbrev pub burst_causes : BurstPart → List Cause
   burst_causes NoBurst = []

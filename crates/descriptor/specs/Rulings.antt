@@ -37,7 +37,8 @@ carried_ruling c =
 unfoldable pub tariff_ruling : ℕ → Bool → TariffPart → PhaseTable → Ruling
 tariff_ruling S e NoTariff t = Allowed
 tariff_ruling S e KeepTariff t = Allowed
-tariff_ruling S e (Rate P) t = ruled_by (TurnedDown NoEndlessEm) e (ruled_by (TurnedDown Interval) (sound_em S 0 P) Allowed)
+tariff_ruling S e (Rate P) t =
+    ruled_by (TurnedDown NoEndlessEm) e (ruled_by (TurnedDown Interval) (sound_em S 0 P) Allowed)
 tariff_ruling S e (Em C P) t = ruled_by (TurnedDown Interval) (sound_em S C P) Allowed
 tariff_ruling S e Phased t = carried_ruling t.carry
 

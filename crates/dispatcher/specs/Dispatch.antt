@@ -1,5 +1,6 @@
 -- The dispatcher: what waits to be told of each line, whose turn it is, and what one tick of a card sends.
-use Rattle.std.specs.Prelude.{Bool, false, cond, not, ◌&&◌, ◌||◌, List, [], ◌∷◌, map, ℕ, zero, suc, ◌+◌, ◌-◌, min, ltb, eqb, length, get_or, set, replicate}
+use Rattle.std.specs.Prelude.{Bool, false, cond, not, ◌&&◌, ◌||◌, List, [], ◌∷◌, map, ℕ, zero, suc, ◌+◌, ◌-◌, min}
+use Rattle.std.specs.Prelude.{ltb, eqb, length, get_or, set, replicate}
 use Rattle.answers.specs.declared.Tick.{Tick}
 use Rattle.descriptor.specs.declared.Refusal.TheVariants.{Row}
 use Rattle.state.specs.Rules.{one_more}
@@ -107,4 +108,7 @@ row_of d ls = cond (wrong_row d.length (length ls)) ls (ticked_row ls)
 unfoldable pub dispatch_of : Dispatcher → List Line → Dispatched
 dispatch_of d ls =
     cond (wrong_row d.length (length ls)) (record { dispatcher = d; reply = Refuses Row })
-    (record { dispatcher = after_tick d (length ls) (told_row ls); reply = Sends (sent_by d (length ls) (told_row ls)) })
+    (record {
+      dispatcher = after_tick d (length ls) (told_row ls);
+      reply = Sends (sent_by d (length ls) (told_row ls));
+    })

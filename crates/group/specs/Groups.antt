@@ -43,7 +43,8 @@ first_refusal f (p ∷ ps) = or_else (f p) (first_refusal f ps)
 unfoldable pub verdict_of : List Line → List ℕ → ℕ → Verdict
 verdict_of ls ps P =
     cond (bad_row (length ls)) (Refused Row)
-    (cond (outside ps (length ls)) (Refused Place) (first_refusal (λ p. (rate_of (get_or ls p blank_line) P).verdict) ps))
+    (cond (outside ps (length ls)) (Refused Place)
+    (first_refusal (λ p. (rate_of (get_or ls p blank_line) P).verdict) ps))
 
 -- each line at whose place f holds takes the rate command once
 unfoldable pub rated_row : (ℕ → Bool) → ℕ → List Line → List Line

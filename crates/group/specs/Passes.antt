@@ -1,5 +1,6 @@
 -- A group's rate by two passes over its places: what the code computes.
-use Rattle.std.specs.Prelude.{Bool, true, false, cond, List, [], ◌∷◌, ◌⊎◌, ◌≡◌, ℕ, ◌*◌, ◌/◌, ◌%◌, ◌^◌, ◌<◌, ltb, eqb, get_or, set}
+use Rattle.std.specs.Prelude.{Bool, true, false, cond, List, [], ◌∷◌, ◌⊎◌, ◌≡◌, ℕ, ◌*◌, ◌/◌, ◌%◌, ◌^◌, ◌<◌, ltb}
+use Rattle.std.specs.Prelude.{eqb, get_or, set}
 use Rattle.std.specs.Int.Bits.{bit_or}
 use Rattle.tariff.specs.Tariffs.{is_endless}
 use Rattle.phase_lists.specs.Tables.{no_table}

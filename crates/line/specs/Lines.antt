@@ -23,7 +23,8 @@ use Rattle.descriptor.specs.declared.Hook.TheVariants.{Keep, Stop}
 use Rattle.grammar.specs.Meaning.{Reading, unreadable, senseless, descriptor, reading_of}
 use Rattle.burst.specs.Bursts.{no_burst, start_of, is_running}
 use Rattle.state.specs.Rules.{one_more}
-use Rattle.state.specs.States.{zero_counters, with_tariff, with_burst, with_counters, stopped, with_rate, origin_wait, is_on}
+use Rattle.state.specs.States.{zero_counters, with_tariff, with_burst, with_counters, stopped, with_rate}
+use Rattle.state.specs.States.{origin_wait, is_on}
 use Rattle.state.specs.declared.State.{State}
 use Rattle.state.specs.declared.Moved.{Moved}
 use Rattle.ticking.specs.Moves.{moved_by}
@@ -45,7 +46,14 @@ idle_line D S clock since =
       count = 0;
       serial = 0;
       state =
-          record { wait = 0; clock = clock; since = since; tariff = Idle; burst = no_burst; counters = zero_counters 0 };
+          record {
+            wait = 0;
+            clock = clock;
+            since = since;
+            tariff = Idle;
+            burst = no_burst;
+            counters = zero_counters 0;
+          };
       phases = no_phases;
     }
 

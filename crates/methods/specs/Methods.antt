@@ -66,12 +66,16 @@ module _ {M : Type 1} {𝓤 : Ura M} (𝓛 : Logic 𝓤) (𝓜 : Model 𝓤 𝓛
         step l (commit n (descriptor t ls b)) ≡ answered r)
     pub commits_text : Does L.commit_text.ended L_code.commit_text.Symbol.name L_code.commit_text.Symbol.code
         (λ _ (l, (n, (bytes, _))) r _. step l (commit n (reading_of bytes.now)) ≡ answered r)
-    pub hooks : Does L.hook.ended L_code.hook.Symbol.name L_code.hook.Symbol.code (λ _ (l, (k, _)) r _. step l (hook k) ≡ answered r)
+    pub hooks : Does L.hook.ended L_code.hook.Symbol.name L_code.hook.Symbol.code
+        (λ _ (l, (k, _)) r _. step l (hook k) ≡ answered r)
     pub periods : Does L.set_period.ended L_code.set_period.Symbol.name L_code.set_period.Symbol.code
         (λ _ (l, (n, _)) r _. step l (period n) ≡ answered r)
-    pub clears : Does L.clear_period.ended L_code.clear_period.Symbol.name L_code.clear_period.Symbol.code (λ _ (l, _) r _. step l no_period ≡ answered r)
-    pub audits : Does L.audit.ended L_code.audit.Symbol.name L_code.audit.Symbol.code (λ _ (l, _) r _. step l audit ≡ audited r)
-    pub ticks : Does L.tick.ended L_code.tick.Symbol.name L_code.tick.Symbol.code (λ _ (l, _) r _. step l tick ≡ moved r)
+    pub clears : Does L.clear_period.ended L_code.clear_period.Symbol.name L_code.clear_period.Symbol.code
+        (λ _ (l, _) r _. step l no_period ≡ answered r)
+    pub audits : Does L.audit.ended L_code.audit.Symbol.name L_code.audit.Symbol.code
+        (λ _ (l, _) r _. step l audit ≡ audited r)
+    pub ticks : Does L.tick.ended L_code.tick.Symbol.name L_code.tick.Symbol.code
+        (λ _ (l, _) r _. step l tick ≡ moved r)
     -- a tick on a lent record: l' is left where l was lent
     pub lent : Does lent.ended lent_code.name lent_code.code
         (λ _ (l, _) r (l', _). step l.now tick ≡ outcome (ticked r) l'.now)

@@ -1,6 +1,6 @@
 -- The first k places of seven lists of one length: they have one length too, and hold the first k phases.
 use mathlib.Core.Path.{◌≡◌, refl}
-use mathlib.Core.Bool.{true, ◌&&◌}
+use mathlib.Core.Bool.{true}
 use mathlib.Core.List.{List}
 use Prim.Native.Nat.{ℕ, zero, suc, ◌≤◌, ◌<◌}
 use native.Mathlib.Omega.{arith}

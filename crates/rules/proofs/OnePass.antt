@@ -10,7 +10,7 @@ use lib.Dec.{leb, ltb, eqb}
 use lib.ListN.{length}
 use Rattle.tariff.specs.Ranges.{within}
 use Rattle.tariff.specs.declared.Phase.{Phase}
-use Rattle.rules.specs.Rules.{sound_phase, sound_phases, ends_before}
+use Rattle.rules.specs.Rules.{sound_phase, sound_phases}
 use Rattle.rules.specs.Carried.{none_met, met_by, carried}
 use Rattle.rules.specs.declared.Carry.{Carry}
 

@@ -114,7 +114,8 @@ card_misplaced = refl
 
 -- a place that is no number or no word of its own, S and G apart, a word too many or too few, and a tick past the top
 pub card-bad :
-    map card_of ("at x SG" ∷ "at 7SG" ∷ "at SG" ∷ "at 7 S G" ∷ "at 7 audit 1" ∷ "at 7 rp" ∷ "at 7" ∷ "tick 1000001" ∷ [])
+    map card_of
+    ("at x SG" ∷ "at 7SG" ∷ "at SG" ∷ "at 7 S G" ∷ "at 7 audit 1" ∷ "at 7 rp" ∷ "at 7" ∷ "tick 1000001" ∷ [])
     ≡ BadCard ∷ BadCard ∷ BadCard ∷ BadCard ∷ BadCard ∷ BadCard ∷ BadCard ∷ BadCard ∷ []
 unfolding words_of
 card-bad = refl

@@ -11,7 +11,6 @@ use Rattle.state.specs.Rules.{one_more, report_due}
 use Rattle.state.specs.declared.Counters.{Counters}
 use Rattle.state.specs.declared.Count.{Count}
 use Rattle.state.specs.declared.State.{State}
-use Rattle.state.specs.declared.Moved.{Moved}
 use Rattle.state.specs.declared.Quick.{Quick}
 
 -- ---- its parts

@@ -1,8 +1,7 @@
 -- `tick_in_place` meets its contract: where `quick` says not busy, its move is the line's.
-use Rattle.std.proofs.Common.{◌≡◌, Bool, true, false, refl, sym, ap, ◌∙◌}
+use Rattle.std.proofs.Common.{◌≡◌, true, false, refl, sym, ap, ◌∙◌}
 use borrow.Author.Tests.{not-false}
 use Rattle.state.specs.States.{quiet_of, quick_of}
-use Rattle.state.specs.declared.Moved.{Moved}
 use Rattle.state.specs.declared.Quick.{Quick}
 use Rattle.ticking.proofs.QuietTicks.{quiet_moves}
 use Rattle.line.specs.Lines.{move_of, tick_of}

@@ -23,11 +23,11 @@ loop-i-preserved c =
       within = omega arith;
       carry_is = rw (c.meet-carry.ensures, c.phase_of-p.ensures, c.loop-i.invariant.carry_is, met_next);
       phases_are =
-        elim c.if-i-lt8.branch [
-        | then-i-lt8 w ↦
-          w.phases-is ∙ rw (c.phase_of-p.ensures, c.loop-i.invariant.phases_are) (stored_next _ i w.if-i-lt8.true)
-        | else-i-lt8 w ↦ w.phases-is ∙ c.loop-i.invariant.phases_are ∙ stored_past _ i w.if-i-lt8.false
-        ];
+          elim c.if-i-lt8.branch [
+            | then-i-lt8 w ↦
+                w.phases-is ∙ rw (c.phase_of-p.ensures, c.loop-i.invariant.phases_are) (stored_next _ i w.if-i-lt8.true)
+            | else-i-lt8 w ↦ w.phases-is ∙ c.loop-i.invariant.phases_are ∙ stored_past _ i w.if-i-lt8.false
+          ];
     }
 
 pub returns : goal.returns

@@ -1,9 +1,7 @@
 -- `Dispatcher::tick` meets its contract: each turn ticks one line more and gathers what it tells.
-use Rattle.std.proofs.Common.{rules, arith, ◌≡◌, ◌<◌, ◌≤◌, ℕ, Bool, true, false, cond, length, add-one, refl}
-use Prim.Native.Nat.{suc}
-use Rattle.line.specs.Lines.{tick_of}
-use Rattle.dispatcher.specs.Dispatch.{dispatch_of, row_of, wrong_row}
-use Rattle.dispatcher.proofs.RowLaws.{row_at, gathered_to, row_step, gather-step, gather-start, row-start, row_end, dispatch_end}
+use Rattle.std.proofs.Common.{rules, arith, ◌≡◌, ◌<◌, ◌≤◌, ℕ, Bool, true, false, cond, length, add-one}
+use Rattle.dispatcher.specs.Dispatch.{wrong_row}
+use Rattle.dispatcher.proofs.RowLaws.{row_step, gather-step, gather-start, row-start, row_end, dispatch_end}
 use Rattle.dispatcher.proofs.Dispatcher.tick.Goals as goal
 
 -- the lines that are ticked are lines of the row

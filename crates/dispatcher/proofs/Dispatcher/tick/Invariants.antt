@@ -1,5 +1,5 @@
 -- The first i lines are ticked, and what their ticks told is gathered.
-use Rattle.std.proofs.Common.{◌≡◌, ◌≤◌, ◌-◌, length}
+use Rattle.std.proofs.Common.{◌≡◌, ◌≤◌, ◌-◌}
 use Rattle.dispatcher.proofs.RowLaws.{row_at, gathered_to}
 use Rattle.dispatcher.proofs.Dispatcher.tick.Given as goal
 
