@@ -64,7 +64,7 @@ while read -r kind place name; do
         grep -qsE "(fn|const|struct|enum) $name\\b" "crates/$place" || say "$place has no $name"
         ;;
     function)
-        cat /dev/null $(sources_of "$place" "$name") | grep -qE "fn ${name##*::}[(<]" || say "there is no function $name"
+        cat /dev/null $(sources_of "$place" "$name") | grep -qE "fn ${name##*::}\\(" || say "there is no function $name"
         ;;
     *) say "$name stands after no file and no 'contract of'" ;;
     esac

@@ -7,7 +7,7 @@ use std::io::Read;
 
 // Reads once, to the places from `end` on, and answers how many bytes came: 0 at the end of the input, and where the
 // read fails.
-fn read_once<R: Read>(from: &mut R, buf: &mut [u8], end: usize) -> usize
+fn read_once(from: &mut impl Read, buf: &mut [u8], end: usize) -> usize
     ensures upper_bound { result ≤ length buf.old - end }
     ensures buf_unchanged { take end buf.new ≡ take end buf.old }
 {
@@ -20,7 +20,7 @@ fn read_once<R: Read>(from: &mut R, buf: &mut [u8], end: usize) -> usize
 
 impl Input {
     // After one more read.
-    fn more<R: Read>(self, from: &mut R, buf: &mut [u8]) -> Input
+    fn more(self, from: &mut impl Read, buf: &mut [u8]) -> Input
         ensures { More buf.old self buf.new result }
     {
         let room = self.with_room(buf);
@@ -29,7 +29,7 @@ impl Input {
     }
 
     // Past a line, or after one more read where there is none.
-    pub fn onward<R: Read>(self, from: &mut R, buf: &mut [u8], line: Span) -> Input
+    pub fn onward(self, from: &mut impl Read, buf: &mut [u8], line: Span) -> Input
         ensures { Onward line.some line.to buf.old self buf.new result }
     {
         if line.some {
