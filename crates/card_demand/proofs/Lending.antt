@@ -15,7 +15,7 @@ use Rattle.line.specs.declared.Verdict.{Verdict}
 use Rattle.line.specs.declared.Verdict.TheVariants.{Accepted, Refused}
 use Rattle.dispatcher.specs.Dispatch.{gathered, gather_all, wrong_row, ticked_row, told_row, dispatch_of}
 use Rattle.dispatcher.specs.declared.Waiting.{Waiting}
-use Rattle.group.specs.Groups.{rate_of, named, verdict_of, rated_row, row_of as ratedBy}
+use Rattle.group.specs.Groups.{rate_of, named, verdict_of, rated_row, row_of as rated_by}
 use Rattle.demand.specs.Calls.{Call, tick}
 use Rattle.demand.specs.Machine.{step, Past, past, after_calls, entries, line_after}
 use Rattle.card_demand.specs.Card.{on_line, tick_row, group, Card, calls_at, rate, row_after, told_in, card_step}
@@ -112,7 +112,7 @@ module _ (P : ℕ) where
       rw (one-rated (f 0) l) (ap (λ (ks : List Line). cond (f 0) (rate_of l P).line l ∷ ks) (lines-rated m (λ i. f (suc i)) (λ i e. let o = inside (suc i) e in omega arith) ls))
 
 group-step : (k : Card) (m : ℕ) (ps : List ℕ) (P : ℕ) (v : Verdict) → verdict_of (take m k.lines) ps P ≡ v → card_step k (group m ps P) ≡ group_step k m ps P
-unfolding ratedBy
+unfolding rated_by
 group-step k m ps P (Refused r) e = rw (e, take-append-drop m k.lines)
 group-step k m ps P (Accepted n) e =
     let c = clear (take m k.lines) ps P (n, e) in

@@ -9,7 +9,7 @@ use Rattle.line.specs.declared.Verdict.TheVariants.{Accepted, Refused}
 use Rattle.dispatcher.specs.Dispatch.{wrong_row, row_of, dispatch_of}
 use Rattle.dispatcher.specs.declared.Reply.{Reply}
 use Rattle.dispatcher.specs.declared.Reply.TheVariants.{Sends, Refuses}
-use Rattle.group.specs.Groups.{if_accepted, verdict_of, row_of as ratedBy}
+use Rattle.group.specs.Groups.{if_accepted, verdict_of, row_of as rated_by}
 use Rattle.demand.specs.Calls.{Call, tick, Entry}
 use Rattle.demand.specs.Machine.{Past, past, after_call, entries, line_after}
 use Rattle.card_demand.specs.Card.{on_line, tick_row, group, CardReply, done, sends, refuses, card_entry}
@@ -58,7 +58,7 @@ group_step k m ps P =
       entry =
           card_entry (group m ps P) (group_reply v)
           (if_accepted v (map entries (row_after (calls_at (group m ps P)) k.lines)) []);
-      card = record { lines = ratedBy row ps P ++ others; dispatcher = k.dispatcher };
+      card = record { lines = rated_by row ps P ++ others; dispatcher = k.dispatcher };
     }
 
 -- a call on the line at place p and on no other; with no line there, on none

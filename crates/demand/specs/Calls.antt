@@ -59,12 +59,12 @@ asks audit = nothing
 asks tick = asking KeepTariff [] KeepBurst (λ rp. rp) true
 
 -- on a line of spacing S: whether an em with C = 0 runs, and whether a burst runs
-module _ (S : ℕ) (endlessRuns burst_runs : Bool) where
+module _ (S : ℕ) (endless_runs burst_runs : Bool) where
   -- what a descriptor may be refused for
   abbrev pub reading_causes : Reading → List Cause
   reading_causes unreadable = cause Grammar true ∷ []
   reading_causes senseless = cause Content true ∷ []
-  reading_causes (descriptor t ls b) = descriptor_causes S endlessRuns burst_runs t ls b
+  reading_causes (descriptor t ls b) = descriptor_causes S endless_runs burst_runs t ls b
 
   -- what a call may be refused for, by the line's serial; a commit's own causes stand before those of its descriptor
   abbrev pub causes : ℕ → Call → List Cause

@@ -10,11 +10,11 @@ use Rattle.descriptor.specs.declared.Refusal.TheVariants.{Lists as PhaseLists}
 use Rattle.descriptor.specs.declared.Ruling.TheVariants.{TurnedDown}
 
 -- on a line of spacing S, whether or not an em with C = 0 or a burst runs
-pub record OnePass (S : ℕ) (endlessRuns burst_runs : Bool) : Type 0 where
+pub record OnePass (S : ℕ) (endless_runs burst_runs : Bool) : Type 0 where
   -- after k phases, for every k, what is carried gives the verdict on those k as a whole list
   pub verdict : (ls : Lists) (k : ℕ) → one_length ls ≡ true → k ≤ length ls.pri
       → carried_ruling (carried S (first_phases ls k))
-      ≡ ruling (tariff_causes S endlessRuns burst_runs Phased (first_places ls k))
+      ≡ ruling (tariff_causes S endless_runs burst_runs Phased (first_places ls k))
   -- no phase at all is refused with 5, and so are more than eight, whatever they are
   pub none : carried_ruling (carried S []) ≡ TurnedDown PhaseLists
   pub many : (ps : List Phase) → 8 < length ps → carried_ruling (carried S ps) ≡ TurnedDown PhaseLists

@@ -44,11 +44,11 @@ abbrev pub sound_burst : ℕ → ℕ → Bool
 sound_burst n P = within 1 65535 n && within 1 60000 P
 
 -- on a line of spacing S: whether an em with C = 0 runs, and whether a burst runs
-module _ (S : ℕ) (endlessRuns burst_runs : Bool) where
+module _ (S : ℕ) (endless_runs burst_runs : Bool) where
   abbrev pub tariff_causes : TariffPart → Lists → List Cause
   tariff_causes NoTariff ls = []
   tariff_causes KeepTariff ls = []
-  tariff_causes (Rate P) ls = cause NoEndlessEm (not endlessRuns) ∷ cause Interval (not (sound_em S 0 P)) ∷ []
+  tariff_causes (Rate P) ls = cause NoEndlessEm (not endless_runs) ∷ cause Interval (not (sound_em S 0 P)) ∷ []
   tariff_causes (Em C P) ls = cause Interval (not (sound_em S C P)) ∷ []
   tariff_causes Phased ls =
       cause PhaseLists (not (sound_lists ls)) ∷ cause Phase (not (sound_phases S (phases_of ls))) ∷ []

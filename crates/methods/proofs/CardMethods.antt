@@ -16,7 +16,7 @@ use Rattle.dispatcher.specs.declared.Dispatcher.{Dispatcher}
 use Rattle.dispatcher.specs.declared.Dispatched.{Dispatched}
 use Rattle.dispatcher.specs.contracts.Dispatcher as D
 use Rattle.dispatcher.proofs.Dispatcher as D_code
-use Rattle.group.specs.Groups.{verdict_of, row_of as ratedBy}
+use Rattle.group.specs.Groups.{verdict_of, row_of as rated_by}
 use Rattle.group.specs.contracts.rate as G
 use Rattle.group.proofs.rate.Met as G_met
 use Rattle.card_demand.specs.Card.{tick_row, group, Stepped, card_step}
@@ -36,7 +36,7 @@ tick-step d row row' others r e f =
     (ap (λ (s : Stepped). s.entry.reply) steps ∙ rw (first, e), ap (λ (s : Stepped). s.card) steps ∙ rw (first, rest, e, f))
 
 -- a group's rate by its answer and the row that it leaves
-group-step : (d : Dispatcher) (row row' others : List Line) (ps : List ℕ) (P : ℕ) (r : Verdict) → r ≡ verdict_of row ps P → row' ≡ ratedBy row ps P →
+group-step : (d : Dispatcher) (row row' others : List Line) (ps : List ℕ) (P : ℕ) (r : Verdict) → r ≡ verdict_of row ps P → row' ≡ rated_by row ps P →
     let s = card_step (card_of (row ++ others) d) (group (length row) ps P) in
     (s.entry.reply ≡ group_reply r) × (s.card ≡ card_of (row' ++ others) d)
 group-step d row row' others ps P r e f =

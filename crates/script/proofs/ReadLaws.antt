@@ -21,7 +21,7 @@ use Rattle.script.specs.declared.numbers.Number.TheVariants.{Value, None}
 use Rattle.script.specs.declared.words.Word.{Word}
 use Rattle.printing.specs.Bytes.{bytes}
 
--- the place `pastEnd` tells of nothing
+-- the place `past_end` tells of nothing
 read-past_end : {A : Type 0} (l : List ℕ) (a : A) → length l * 1 < 2 ^ 63 → read l a past_end ≡ failed
 read-past_end l a h = rw (lt-ltb (length l) past_end (omega arith))
 

@@ -8,7 +8,7 @@ use borrow.Author.Tests.{leb-true, ltb-true, eq-eqb, ne_eqb}
 use lib.Dec.{leb, ltb, eqb}
 use Rattle.tariff.proofs.Both.{both_left, both_right}
 use Rattle.grammar.specs.Grammar.{bytes, same, is_small, Small, Digit, Name, letter, letters, Digits, digit, digits}
-use Rattle.grammar.specs.Meaning.{Known, ◌↣◌, slot_in as namedSlot, known_signals, em_items, mpb_items, phsm_items, items_of, decimal_after, decimal_of, signal_slot as signalNamed, item_slot as item_named}
+use Rattle.grammar.specs.Meaning.{Known, ◌↣◌, slot_in as named_slot, known_signals, em_items, mpb_items, phsm_items, items_of, decimal_after, decimal_of, signal_slot as signal_named, item_slot as item_named}
 use Rattle.scanner.specs.Codes.{code_after, code_of, number_after, number_of, next_letter, next_digit}
 use Rattle.notes.specs.Noting.{slot_in, signal_slot, item_slot}
 use Rattle.grammar.proofs.Sound.{same_word}
@@ -138,7 +138,7 @@ word_same (b ∷ v) h e =
     (ltb-true (code_of (b ∷ v)) 1_099_511_627_776 (both_right (all_small (b ∷ v)) (ltb (code_of (b ∷ v)) 1_099_511_627_776) e))
 
 -- a slot goes by the name
-slot-named : (ks : List Known) {w : List ℕ} → Name w → all_words ks ≡ true → slot_in ks (code_of w) ≡ namedSlot ks w
+slot-named : (ks : List Known) {w : List ℕ} → Name w → all_words ks ≡ true → slot_in ks (code_of w) ≡ named_slot ks w
 slot-named [] h e = refl
 slot-named ((s ↣ k) ∷ ks) {w} h e =
     rw (word_same (bytes s) h (both_left (is_word (bytes s)) (all_words ks) e), slot-named ks h (both_right (is_word (bytes s)) (all_words ks) e))
@@ -154,7 +154,7 @@ items_all test em mpb phsm none s = at (eqb s 0) (eqb s 4) (eqb s 8)
     at false false true = phsm
     at false false false = none
 
-pub signal-named : {n : List ℕ} → Name n → signal_slot (code_of n) ≡ signalNamed n
+pub signal-named : {n : List ℕ} → Name n → signal_slot (code_of n) ≡ signal_named n
 signal-named h = slot-named known_signals h refl
 
 pub item_named_lem : (s : ℕ) {m : List ℕ} → Name m → item_slot s (code_of m) ≡ item_named s m

@@ -15,7 +15,7 @@ use Rattle.state.specs.States.{is_on, count_by, quiet_of, waited_of, quick_of}
 use Rattle.state.specs.declared.State.{State}
 use Rattle.ticking.specs.Moves.{since_front, burst_after, happens, moved_by}
 
--- what the four parts of `quietOf` say
+-- what the four parts of `quiet_of` say
 record Quiet (D S : ℕ) (s : State) : Type 0 where
   waits : (ltb 1 s.wait || is_idle s.tariff) ≡ true
   runs : completes_of D s.burst ≡ false
