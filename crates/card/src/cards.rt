@@ -19,8 +19,8 @@ pub struct Card {
 
 fn answer_of(verdict: Verdict) -> Answer {
     match verdict {
-        Verdict::Accepted(cancelled) => Answer::Ok(cancelled),
-        Verdict::Refused(why) => Answer::No(why.number()),
+        Ok(cancelled) => Answer::Ok(cancelled),
+        Err(why) => Answer::No(why.number()),
     }
 }
 
@@ -110,8 +110,8 @@ impl Card {
         let line = made.line;
         let verdict = made.verdict;
         match verdict {
-            Verdict::Refused(why) => self.with_answer(Answer::No(why.number()), out),
-            Verdict::Accepted(_) => {
+            Err(why) => self.with_answer(Answer::No(why.number()), out),
+            Ok(_) => {
                 let after = self.with_more(line);
                 after.with_answer(answer_of(verdict), out)
             }

@@ -12,10 +12,9 @@ use lib.Seq.{get_or-take}
 use Rattle.descriptor.specs.Refusals.{refusal_number}
 use Rattle.descriptor.specs.declared.Refusal.{Refusal}
 use Rattle.descriptor.specs.declared.Refusal.TheVariants.{Row, Place}
-use Rattle.line.specs.Lines.{blank_line}
+use Rattle.line.specs.Lines.{Verdict, blank_line}
 use Rattle.line.specs.declared.Line.{Line}
-use Rattle.line.specs.declared.Verdict.{Verdict}
-use Rattle.line.specs.declared.Verdict.TheVariants.{Accepted, Refused}
+use Rattle.std.specs.Prelude.{Ok, Err}
 use Rattle.dispatcher.specs.Dispatch.{bad_row}
 use Rattle.group.specs.Groups.{rate_of, named, outside, or_else, first_refusal, verdict_of}
 use Rattle.group.proofs.RateLaws.{rate-cancels, else_accepted}
@@ -48,8 +47,8 @@ inside (p ∷ ps) n e i t =
 
 -- ---- the first refusal
 refused_or : (v w : Verdict) (r : CardReply) → group_reply w ≡ r → group_reply (or_else v w) ≡ refusal_else (verdict_told v) r
-refused_or (Accepted k) w r e = e
-refused_or (Refused x) w r e = refl
+refused_or (Ok k) w r e = e
+refused_or (Err x) w r e = refl
 
 -- by verdicts and by answers, where no place is outside
 first-same : (n : ℕ) (f : ℕ → Verdict) (g : ℕ → Answer) → ((p : ℕ) → p < n → verdict_told (f p) ≡ g p) → (ps : List ℕ) → outside ps n ≡ false →
@@ -62,7 +61,7 @@ first-same n f g same (p ∷ ps) e =
     ∙ ap (λ (a : Answer). refusal_else a (first_refused g ps)) (same p (leb-false n p both.0))
 
 abbrev pub Accepts : Verdict → Type 0
-Accepts v = (k : ℕ) × (v ≡ Accepted k)
+Accepts v = (k : ℕ) × (v ≡ Ok k)
 
 accepted-both : (v w : Verdict) → Accepts (or_else v w) → Accepts v × Accepts w
 accepted-both v w a = let both = else_accepted v w a.0 a.1 in (both.0, (a.0, both.1))
@@ -86,7 +85,7 @@ clear ls ps P = by (bad_row (length ls)) (outside ps (length ls)) refl
     f : ℕ → Verdict
     f p = (rate_of (get_or ls p blank_line) P).verdict
 
-    by : (a b : Bool) → outside ps (length ls) ≡ b → Accepts (cond a (Refused Row) (cond b (Refused Place) (first_refusal f ps))) → Clear ls ps P
+    by : (a b : Bool) → outside ps (length ls) ≡ b → Accepts (cond a (Err Row) (cond b (Err Place) (first_refusal f ps))) → Clear ls ps P
     by true b e a = absurd (let q = a.1 in let o : ◌≡◌ {A = ℕ} 0 1 = cc in omega arith)
     by false true e a = absurd (let q = a.1 in let o : ◌≡◌ {A = ℕ} 0 1 = cc in omega arith)
     by false false e a = record { places = inside ps (length ls) e; lines = all_accept f ps a }
@@ -137,12 +136,12 @@ module _ (ms : List Making) (sound : AllSound ms) (h : List CardEntry) (ls : Lis
         f : ℕ → Verdict
         f p = (rate_of (get_or row p blank_line) P).verdict
 
-        by : (a b : Bool) → bad_row n ≡ a → outside ps n ≡ b → group_reply (cond (bad_row n) (Refused Row) (cond (outside ps n) (Refused Place) (first_refusal f ps))) ≡ rate_reply n ps told
+        by : (a b : Bool) → bad_row n ≡ a → outside ps n ≡ b → group_reply (cond (bad_row n) (Err Row) (cond (outside ps n) (Err Place) (first_refusal f ps))) ≡ rate_reply n ps told
         by true b r o = rw r
         by false true r o = rw (r, o)
         by false false r o = rw (r, o) (first-same n f told told_is ps o)
 
-    pub group-refused : (r : Refusal) → verdict_of row ps P ≡ Refused r → GroupDemand ms h (e (refuses (refusal_number r)) []) n ps P
+    pub group-refused : (r : Refusal) → verdict_of row ps P ≡ Err r → GroupDemand ms h (e (refuses (refusal_number r)) []) n ps P
     group-refused r v = record {
       reply = ap group_reply (sym v) ∙ same-reply;
       all = λ q. absurd (let o : ◌≡◌ {A = ℕ} 0 1 = cc in omega arith);
@@ -168,7 +167,7 @@ module _ (ms : List Making) (sound : AllSound ms) (h : List CardEntry) (ls : Lis
     unnamed : (i : ℕ) → named ps i ≡ false → GotNone (e done rows) i
     unnamed i t = row-none (calls_at (group m ps P)) ls i (rw t)
 
-    pub group-taken : (k : ℕ) → verdict_of row ps P ≡ Accepted k → GroupDemand ms h (e done rows) n ps P
+    pub group-taken : (k : ℕ) → verdict_of row ps P ≡ Ok k → GroupDemand ms h (e done rows) n ps P
     group-taken k v = record {
       reply = ap group_reply (sym v) ∙ same-reply;
       all = λ q. took (k, v);

@@ -9,10 +9,9 @@ use lib.Dec.{ltb, eqb, leb-suc-suc, eqb-zero-suc, eqb-suc-zero, eqb-suc-suc}
 use lib.ListN.{length, get_or, set, take, drop, length-take, take-append-drop}
 use Rattle.answers.specs.Fronts.{silent}
 use Rattle.answers.specs.declared.Tick.{Tick}
-use Rattle.line.specs.Lines.{blank_line}
+use Rattle.line.specs.Lines.{Verdict, blank_line}
 use Rattle.line.specs.declared.Line.{Line}
-use Rattle.line.specs.declared.Verdict.{Verdict}
-use Rattle.line.specs.declared.Verdict.TheVariants.{Accepted, Refused}
+use Rattle.std.specs.Prelude.{Ok, Err}
 use Rattle.dispatcher.specs.Dispatch.{gathered, gather_all, wrong_row, ticked_row, told_row, dispatch_of}
 use Rattle.dispatcher.specs.declared.Waiting.{Waiting}
 use Rattle.group.specs.Groups.{rate_of, named, verdict_of, rated_row, row_of as rated_by}
@@ -113,8 +112,8 @@ module _ (P : ℕ) where
 
 group-step : (k : Card) (m : ℕ) (ps : List ℕ) (P : ℕ) (v : Verdict) → verdict_of (take m k.lines) ps P ≡ v → card_step k (group m ps P) ≡ group_step k m ps P
 unfolding rated_by
-group-step k m ps P (Refused r) e = rw (e, take-append-drop m k.lines)
-group-step k m ps P (Accepted n) e =
+group-step k m ps P (Err r) e = rw (e, take-append-drop m k.lines)
+group-step k m ps P (Ok n) e =
     let c = clear (take m k.lines) ps P (n, e) in
     rw (e, lines-rated P m (named ps) (λ i t. let l = c.places i t in omega (arith, length-take m k.lines)) k.lines)
 

@@ -10,10 +10,9 @@ use native.Mathlib.Omega.{arith}
 use borrow.Author.Tests.{le-ltb}
 use lib.ListN.{length, get_or, take, length-map, get_or-map}
 use Rattle.descriptor.specs.Refusals.{refusal_number}
-use Rattle.line.specs.Lines.{make_of, blank_line}
+use Rattle.line.specs.Lines.{Verdict, make_of, blank_line}
 use Rattle.line.specs.declared.Line.{Line}
-use Rattle.line.specs.declared.Verdict.{Verdict}
-use Rattle.line.specs.declared.Verdict.TheVariants.{Accepted, Refused}
+use Rattle.std.specs.Prelude.{Ok, Err}
 use Rattle.dispatcher.specs.Dispatch.{wrong_row, sent_of, turn_of}
 use Rattle.group.specs.Groups.{verdict_of}
 use Rattle.demand.specs.Calls.{Call, tick, Entry}
@@ -85,9 +84,9 @@ module _ (ms : List Making) where
     }
 
     group-good : (m : ℕ) (ps : List ℕ) (P : ℕ) (v : Verdict) → verdict_of (take m k.lines) ps P ≡ v → Step h (step_by (refused_with v) k (group m ps P))
-    group-good m ps P (Accepted n) e =
+    group-good m ps P (Ok n) e =
         record { replied = λ sound. group-taken ms sound h k.lines x.size x.lines m ps P n e; coupled = done-good (group m ps P) }
-    group-good m ps P (Refused r) e =
+    group-good m ps P (Err r) e =
         record { replied = λ sound. group-refused ms sound h k.lines x.size x.lines m ps P r e; coupled = refused-good (group m ps P) (refusal_number r) }
 
     module _ (m : ℕ) where

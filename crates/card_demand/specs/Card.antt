@@ -1,5 +1,5 @@
 -- A card: lines in a row and their dispatcher, the calls on it, and the history of a list of them.
-use Rattle.std.specs.Prelude.{cond, List, [], ◌∷◌, map, ℕ, suc, min, ltb, eqb, length, take}
+use Rattle.std.specs.Prelude.{cond, List, [], ◌∷◌, map, ℕ, suc, min, ltb, eqb, length, take, Ok, Err}
 use Rattle.std.proofs.Math.Option.{Option, none, some}
 use Rattle.answers.specs.Fronts.{silent}
 use Rattle.answers.specs.declared.Tick.{Tick}
@@ -7,10 +7,8 @@ use Rattle.phase_lists.specs.Lists.{no_lists}
 use Rattle.descriptor.specs.Refusals.{refusal_number}
 use Rattle.descriptor.specs.declared.TariffPart.TheVariants.{Rate}
 use Rattle.descriptor.specs.declared.BurstPart.TheVariants.{Keep}
-use Rattle.line.specs.Lines.{make_of}
+use Rattle.line.specs.Lines.{Verdict, make_of}
 use Rattle.line.specs.declared.Line.{Line}
-use Rattle.line.specs.declared.Verdict.{Verdict}
-use Rattle.line.specs.declared.Verdict.TheVariants.{Accepted, Refused}
 use Rattle.dispatcher.specs.Dispatch.{fresh_dispatcher, wrong_row, sent_by, after_tick}
 use Rattle.dispatcher.specs.declared.Dispatcher.{Dispatcher}
 use Rattle.dispatcher.specs.declared.Sent.{Sent}
@@ -69,8 +67,8 @@ told_in (e ∷ es) = told e.answer
 
 -- the number that a verdict refuses with
 abbrev pub refused_with : Verdict → Option ℕ
-refused_with (Accepted k) = none
-refused_with (Refused r) = some (refusal_number r)
+refused_with (Ok k) = none
+refused_with (Err r) = some (refusal_number r)
 
 -- the number that it is refused with; a card that is shorter than m is lent whole
 abbrev pub refusal : Card → CardCall → Option ℕ

@@ -1,11 +1,9 @@
 -- What the contracts of dispatcher and group compute of a lent row is the step of the card, and so is what a call makes
 -- of a line.
-use Rattle.std.specs.Prelude.{◌≡◌, cond, List, [], ◌++◌, map, ℕ, length, get_or, set, take, drop}
+use Rattle.std.specs.Prelude.{◌≡◌, cond, List, [], ◌++◌, map, ℕ, length, get_or, set, take, drop, Ok, Err}
 use Rattle.descriptor.specs.Refusals.{refusal_number}
-use Rattle.line.specs.Lines.{blank_line}
+use Rattle.line.specs.Lines.{Verdict, blank_line}
 use Rattle.line.specs.declared.Line.{Line}
-use Rattle.line.specs.declared.Verdict.{Verdict}
-use Rattle.line.specs.declared.Verdict.TheVariants.{Accepted, Refused}
 use Rattle.dispatcher.specs.Dispatch.{wrong_row, row_of, dispatch_of}
 use Rattle.dispatcher.specs.declared.Reply.{Reply}
 use Rattle.dispatcher.specs.declared.Reply.TheVariants.{Sends, Refuses}
@@ -22,8 +20,8 @@ replied (Refuses r) = refuses (refusal_number r)
 
 -- the group's reply on the card
 abbrev pub group_reply : Verdict → CardReply
-group_reply (Accepted k) = done
-group_reply (Refused r) = refuses (refusal_number r)
+group_reply (Ok k) = done
+group_reply (Err r) = refuses (refusal_number r)
 
 -- one call on a line: its entry, and the line after it
 abbrev pub called_on : Line → Call → Past

@@ -12,7 +12,7 @@ use Rattle.descriptor.specs.declared.Refusal.{Refusal}
 use Rattle.descriptor.specs.Cancelled.{cancelled_by}
 use Rattle.descriptor.proofs.Table.{Applies, Ascending, none-applies, refused-applies, refused_lowest, descriptor_ascends, period_ascends}
 use Rattle.grammar.specs.Meaning.{Reading, unreadable, senseless, descriptor}
-use Rattle.demand.specs.Names.{Ruling, Allowed, TurnedDown}
+use Rattle.demand.specs.Names.{Ruling, Ok, Err}
 use Rattle.demand.specs.Calls.{Call, describe, ask, hook, period, no_period, audit, tick, Answer, accepted, refused, asked, counters, ticked, Entry, asks, reading_causes, causes}
 use Rattle.demand.specs.History.{ticks, burst_in, owed, burst_runs, running}
 use Rattle.demand.specs.Serials.{serial_in}
@@ -64,8 +64,8 @@ Judged cs (counters cpc pcslr) = NoCause cs
 Judged cs (ticked t) = NoCause cs
 
 ruled-judged : (cs : List Cause) (k : ℕ) → Ascending 0 cs → (u : Ruling) → ruling cs ≡ u → Judged cs (ruled_answer u k)
-ruled-judged cs k a Allowed e = none-applies cs e
-ruled-judged cs k a (TurnedDown r) e =
+ruled-judged cs k a (Ok tt) e = none-applies cs e
+ruled-judged cs k a (Err r) e =
     record { why = r; number = refl; applies = refused-applies cs r e; least = λ q. refused_lowest 0 cs r q a e }
 
 module _ (D S : ℕ) (h : List Entry) where

@@ -6,7 +6,7 @@ use Prim.Native.Nat.{ℕ, ◌+◌}
 use Rattle.descriptor.specs.Cancelled.{cancelled_by}
 use Rattle.descriptor.specs.Refusals.{refusal_number}
 use Rattle.grammar.specs.Meaning.{unreadable, senseless, descriptor}
-use Rattle.demand.specs.Names.{KeepHook, Stop, Ruling, Allowed, TurnedDown}
+use Rattle.demand.specs.Names.{KeepHook, Stop, Ruling, Ok, Err}
 use Rattle.demand.specs.Calls.{Call, describe, ask, hook, period, no_period, audit, tick, Answer, accepted, refused, asked, counters, ticked, Entry, asks}
 use Rattle.demand.specs.History.{ticks, owed, since_report}
 use Rattle.demand.specs.Answers.{ruling_after, command_answer, tick_after, answer_after}
@@ -14,7 +14,7 @@ use Rattle.demand.proofs.Counters.{total}
 
 -- the burst pulses cancelled, or the number of the refusal
 abbrev pub ruled_answer : Ruling → ℕ → Answer
-ruled_answer u k = elim u [ Allowed ↦ accepted k | TurnedDown r ↦ refused (refusal_number r) ]
+ruled_answer u k = elim u [ Ok tt ↦ accepted k | Err r ↦ refused (refusal_number r) ]
 
 module _ (D S : ℕ) (h : List Entry) where
   pub ruled : (c : Call) {u : Ruling} → ruling_after D S h c ≡ u → ruled_answer u (cancelled_by (asks c).burst (owed h)) ≡ command_answer D S h c

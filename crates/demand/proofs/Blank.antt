@@ -23,7 +23,7 @@ use Rattle.ticking.specs.Moves.{moved_by}
 use Rattle.line.specs.Lines.{blank_line, make_of, with_serial, ask_of, hook_of, period_of, no_period_of, audit_of, answered_by, tariff_changed, burst_changed, with_period, move_of, tick_of}
 use Rattle.line.specs.declared.Line.{Line}
 use Rattle.grammar.specs.Meaning.{Reading, unreadable, senseless, descriptor}
-use Rattle.demand.specs.Names.{NoFront, Phase, TariffPart, NoTariff, KeepTariff, Rate, Em, Phased, BurstPart, NoBurst, KeepBurst, Start, KeepHook, Stop, Ruling, Allowed, TurnedDown}
+use Rattle.demand.specs.Names.{NoFront, Phase, TariffPart, NoTariff, KeepTariff, Rate, Em, Phased, BurstPart, NoBurst, KeepBurst, Start, KeepHook, Stop, Ruling, Ok, Err}
 use Rattle.demand.specs.Calls.{Call, describe, ask, hook, period, no_period, audit, tick, Entry}
 use Rattle.demand.specs.History.{front_of, sum, ticks}
 use Rattle.demand.specs.Machine.{ruling_of, answered, step, Past, past, noted, after_calls, entries, history}
@@ -63,7 +63,7 @@ phases-small S (p ∷ ps) some h =
 
 module _ (i : ℕ) where
   -- ---- commands
-  tariff-quiet : (e b : Bool) (t : TariffPart) (ls : Lists) (l : Line) → ruling (tariff_causes l.spacing e b t ls) ≡ Allowed → Quiet i l → Quiet i (tariff_changed t (length (phases_of ls)) (eight_of (phases_of ls)) l)
+  tariff-quiet : (e b : Bool) (t : TariffPart) (ls : Lists) (l : Line) → ruling (tariff_causes l.spacing e b t ls) ≡ Ok tt → Quiet i l → Quiet i (tariff_changed t (length (phases_of ls)) (eight_of (phases_of ls)) l)
   unfolding tariff_changed rate_of
   tariff-quiet e b NoTariff ls l h x = record { spacing = x.spacing; tariff = refl; wait = refl; since = x.since }
   tariff-quiet e b KeepTariff ls l h x = x
@@ -109,10 +109,10 @@ QuietPast (past h l) = ticks h < 4294967295 → Quiet (ticks h) l × (fronts h �
 module _ (h : List Entry) (l : Line) (x : QuietPast (past h l)) where
   described : (k : Option ℕ) (d : Reading) (u : Ruling) → ruling_of l (describe k d) ≡ u → QuietPast (noted h (describe k d) (answered (described_by u d l)))
   unfolding ticks sum
-  described k d (TurnedDown r) e = λ early. ((x early).0, omega (arith, (x early).1))
-  described k unreadable Allowed e = absurd (unreadable-refused l.spacing (is_endless l.state.tariff) (is_running l.state.burst) l.serial k e)
-  described k senseless Allowed e = absurd (senseless-refused l.spacing (is_endless l.state.tariff) (is_running l.state.burst) l.serial k e)
-  described k (descriptor t ls p) Allowed e = λ early.
+  described k d (Err r) e = λ early. ((x early).0, omega (arith, (x early).1))
+  described k unreadable (Ok tt) e = absurd (unreadable-refused l.spacing (is_endless l.state.tariff) (is_running l.state.burst) l.serial k e)
+  described k senseless (Ok tt) e = absurd (senseless-refused l.spacing (is_endless l.state.tariff) (is_running l.state.burst) l.serial k e)
+  described k (descriptor t ls p) (Ok tt) e = λ early.
       let endless : Bool = is_endless l.state.tariff in
       let running : Bool = is_running l.state.burst in
       let own = allowed-reading l.spacing endless running l.serial k (descriptor t ls p) e in
@@ -121,8 +121,8 @@ module _ (h : List Entry) (l : Line) (x : QuietPast (past h l)) where
 
   ruled : (n : ℕ) (u : Ruling) → QuietPast (noted h (period n) (answered (answered_by u l (with_period l n) 0)))
   unfolding ticks sum
-  ruled n (TurnedDown r) = λ early. ((x early).0, omega (arith, (x early).1))
-  ruled n Allowed = λ early.
+  ruled n (Err r) = λ early. ((x early).0, omega (arith, (x early).1))
+  ruled n (Ok tt) = λ early.
       let y = (x early).0 in
       (record { spacing = y.spacing; tariff = y.tariff; wait = y.wait; since = y.since }, omega (arith, (x early).1))
 
@@ -133,7 +133,7 @@ module _ (h : List Entry) (l : Line) (x : QuietPast (past h l)) where
   call-quiet (hook KeepHook) = λ early. (with-serial (ticks h) l (x early).0, omega (arith, (x early).1))
   call-quiet (hook Stop) = λ early. (record { spacing = (x early).0.spacing; tariff = refl; wait = refl; since = (x early).0.since }, omega (arith, (x early).1))
   call-quiet (period n) = ruled n (ruling_of l (period n))
-  call-quiet no_period = ruled 0 Allowed
+  call-quiet no_period = ruled 0 (Ok tt)
   call-quiet audit = λ early. ((x early).0, omega (arith, (x early).1))
   call-quiet tick = λ early.
       let y = x (omega arith) in

@@ -24,8 +24,8 @@ use Rattle.descriptor.specs.declared.TariffPart.{TariffPart}
 use Rattle.descriptor.specs.declared.TariffPart.TheVariants.{None as NoTariff, Keep as KeepTariff, Rate, Em, Phased}
 use Rattle.descriptor.specs.declared.BurstPart.{BurstPart}
 use Rattle.descriptor.specs.declared.BurstPart.TheVariants.{None as NoBurst, Keep as KeepBurst, Start}
-use Rattle.descriptor.specs.declared.Ruling.{Ruling}
-use Rattle.descriptor.specs.declared.Ruling.TheVariants.{Allowed, TurnedDown}
+use Rattle.descriptor.specs.Names.{Ruling}
+use Rattle.std.specs.Prelude.{Ok, Err}
 use Rattle.descriptor.specs.declared.Hook.TheVariants.{Keep, Stop}
 use Rattle.burst.specs.Bursts.{no_burst, is_running, held_more, completes_of, aged_of, is_due}
 use Rattle.burst.specs.declared.Burst.{Burst}
@@ -85,7 +85,7 @@ Allows NoBurst = Unit {0}
 Allows KeepBurst = Unit {0}
 Allows (Start n P) = (n ≤ 65535) × (P ≤ 60000)
 
-allows : (S : ℕ) (e b : Bool) (p : BurstPart) → ruling (burst_causes S e b p) ≡ Allowed → Allows p
+allows : (S : ℕ) (e b : Bool) (p : BurstPart) → ruling (burst_causes S e b p) ≡ Ok tt → Allows p
 allows S e b NoBurst h = tt
 allows S e b KeepBurst h = tt
 allows S e b (Start n P) h =
@@ -117,10 +117,10 @@ accepted-bounded : (l : Line) → Bounded l → Bounded (with_serial l (one_more
 accepted-bounded l x = record { spacing = x.spacing; serial = omega arith; state = x.state }
 
 described : (k : Option ℕ) (d : Reading) (l : Line) (u : Ruling) → ruling_of l (describe k d) ≡ u → Bounded l → OutcomeBounded (answered (described_by u d l))
-described k d l (TurnedDown r) e x = x
-described k unreadable l Allowed e x = accepted-bounded l x
-described k senseless l Allowed e x = accepted-bounded l x
-described k (descriptor t ls p) l Allowed e x =
+described k d l (Err r) e x = x
+described k unreadable l (Ok tt) e x = accepted-bounded l x
+described k senseless l (Ok tt) e x = accepted-bounded l x
+described k (descriptor t ls p) l (Ok tt) e x =
     let endless : Bool = is_endless l.state.tariff in
     let running : Bool = is_running l.state.burst in
     let own = allowed-reading l.spacing endless running l.serial k (descriptor t ls p) e in
@@ -128,7 +128,7 @@ described k (descriptor t ls p) l Allowed e x =
     accepted-bounded _ (burst-bounded p (tariff_changed t (length (phases_of ls)) (eight_of (phases_of ls)) l) (allows l.spacing endless running p free.1) (tariff-bounded t (phases_of ls) l x))
 
 ruled : (n : ℕ) (l : Line) (u : Ruling) → Bounded l → OutcomeBounded (answered (answered_by u l (with_period l n) 0))
-ruled n l Allowed x =
+ruled n l (Ok tt) x =
     accepted-bounded (with_period l n)
     (record {
       spacing = x.spacing;
@@ -141,7 +141,7 @@ ruled n l Allowed x =
             counters = record { cpc = x.state.counters.cpc; pcslr = x.state.counters.pcslr };
           };
     })
-ruled n l (TurnedDown r) x = x
+ruled n l (Err r) x = x
 
 -- ---- a tick
 aged-bounded : (D : ℕ) (b : Burst) → BurstBounded b → BurstBounded (aged_of D b).burst
@@ -200,7 +200,7 @@ step-bounded l x (ask d) = x
 step-bounded l x (hook Keep) = accepted-bounded l x
 step-bounded l x (hook Stop) = accepted-bounded _ (record { spacing = x.spacing; serial = x.serial; state = record { clock = x.state.clock; since = x.state.since; burst = no-burst; counters = x.state.counters } })
 step-bounded l x (period n) = ruled n l (ruling_of l (period n)) x
-step-bounded l x no_period = ruled 0 l Allowed x
+step-bounded l x no_period = ruled 0 l (Ok tt) x
 step-bounded l x audit = x
 step-bounded l x tick = tick-bounded l x
 

@@ -13,7 +13,7 @@ use Rattle.tariff.specs.declared.Slot.{Slot}
 use Rattle.tariff.specs.declared.Slot.TheVariants.{None as NoSlot, Empty, Pulse}
 use Rattle.slots.specs.Slots.{slot_at}
 use Rattle.descriptor.specs.Refusals.{ruling, sound_configuration}
-use Rattle.descriptor.specs.declared.Ruling.TheVariants.{Allowed, TurnedDown}
+use Rattle.std.specs.Prelude.{Ok, Err}
 use Rattle.descriptor.specs.declared.Hook.TheVariants.{Stop}
 use Rattle.ticking.specs.Rules.{front_at}
 use Rattle.line.specs.Lines.{fresh_line, make_of}
@@ -38,8 +38,8 @@ tariff-front Empty may = (λ e. absurd (let o : ◌≡◌ {A = ℕ} 0 1 = cc in 
 tariff-front Pulse may = (λ e. refl, λ e. refl)
 
 slot-front : (D S : ℕ) (h : List Entry) (c : Call) (a : Answer) → Kind D S h c a → (unless_refused a (asks c)).tick ≡ true → ((told a).front ≡ TariffFront) ↔ (slot_at (running D S h) (ticks h + 1) ≡ Pulse)
-slot-front D S h c a (to_command Allowed f n) e = absurd (let o : ◌≡◌ {A = ℕ} 0 1 = cc in omega arith)
-slot-front D S h c a (to_command (TurnedDown r) f n) e = absurd (let o : ◌≡◌ {A = ℕ} 0 1 = cc in omega arith)
+slot-front D S h c a (to_command (Ok tt) f n) e = absurd (let o : ◌≡◌ {A = ℕ} 0 1 = cc in omega arith)
+slot-front D S h c a (to_command (Err r) f n) e = absurd (let o : ◌≡◌ {A = ℕ} 0 1 = cc in omega arith)
 slot-front D S h c a (to_ask n) e = absurd (let o : ◌≡◌ {A = ℕ} 0 1 = cc in omega arith)
 slot-front D S h c a (to_audit n) e = absurd (let o : ◌≡◌ {A = ℕ} 0 1 = cc in omega arith)
 slot-front D S h c a (to_tick n) e = tariff-front _ _

@@ -16,7 +16,7 @@ use Rattle.line.specs.Lines.{describe_of, read_answer, commit_of, answered_by, i
 use Rattle.line.specs.declared.Line.{Line}
 use Rattle.line.specs.declared.Answered.{Answered}
 use Rattle.grammar.specs.Meaning.{Reading, unreadable, senseless, descriptor}
-use Rattle.demand.specs.Names.{Ruling, Allowed, TurnedDown}
+use Rattle.demand.specs.Names.{Ruling, Ok, Err}
 use Rattle.demand.specs.Calls.{describe, asks, reading_causes, causes}
 use Rattle.demand.specs.Machine.{ruling_of, answered, step}
 use Rattle.descriptor.proofs.Causes.{none_after, ruling_append}
@@ -42,8 +42,8 @@ read_is l (descriptor t ls b) = refl
 
 -- causes that stand before those of the descriptor
 first-ruled : (u v : Ruling) (d : Reading) (l : Line) → if_allowed u l (described_by v d l) ≡ described_by (and_then u v) d l
-first-ruled Allowed v d l = refl
-first-ruled (TurnedDown r) v d l = refl
+first-ruled (Ok tt) v d l = refl
+first-ruled (Err r) v d l = refl
 
 pub describe-step : (l : Line) (k : Option ℕ) (d : Reading) → step l (describe k d) ≡ answered (described_by (ruling_of l (describe k d)) d l)
 unfolding step commit_of
@@ -57,17 +57,17 @@ describe-step l (some ticket) d =
     ∙ ap (λ (u : Ruling). described_by u d l) (sym (ruling_append first own)))
 
 -- a commit that is allowed is allowed without its ticket
-pub allowed-reading : (S : ℕ) (e b : Bool) (serial : ℕ) (k : Option ℕ) (d : Reading) → ruling (causes S e b serial (describe k d)) ≡ Allowed → ruling (reading_causes S e b d) ≡ Allowed
+pub allowed-reading : (S : ℕ) (e b : Bool) (serial : ℕ) (k : Option ℕ) (d : Reading) → ruling (causes S e b serial (describe k d)) ≡ Ok tt → ruling (reading_causes S e b d) ≡ Ok tt
 allowed-reading S e b serial none d h = h
 allowed-reading S e b serial (some ticket) d h = (none_after (ticket_causes ticket serial) (reading_causes S e b d) h).1
 
 -- and reads, and makes sense
-pub unreadable-refused : (S : ℕ) (e b : Bool) (serial : ℕ) (k : Option ℕ) → ruling (causes S e b serial (describe k unreadable)) ≡ Allowed → ⊥
+pub unreadable-refused : (S : ℕ) (e b : Bool) (serial : ℕ) (k : Option ℕ) → ruling (causes S e b serial (describe k unreadable)) ≡ Ok tt → ⊥
 unfolding ruling
 unreadable-refused S e b serial k h =
     let no = allowed-reading S e b serial k unreadable h in let o : ◌≡◌ {A = ℕ} 0 1 = cc in omega arith
 
-pub senseless-refused : (S : ℕ) (e b : Bool) (serial : ℕ) (k : Option ℕ) → ruling (causes S e b serial (describe k senseless)) ≡ Allowed → ⊥
+pub senseless-refused : (S : ℕ) (e b : Bool) (serial : ℕ) (k : Option ℕ) → ruling (causes S e b serial (describe k senseless)) ≡ Ok tt → ⊥
 unfolding ruling
 senseless-refused S e b serial k h =
     let no = allowed-reading S e b serial k senseless h in let o : ◌≡◌ {A = ℕ} 0 1 = cc in omega arith

@@ -13,8 +13,8 @@ use Rattle.steps.specs.Steps.{step_of}
 use Rattle.tariff.specs.declared.Slot.{Slot}
 use Rattle.tariff.specs.declared.Slot.TheVariants.{None as NoSlot, Empty, Pulse}
 use Rattle.steps.specs.declared.Stepped.{Stepped}
-use Rattle.descriptor.specs.declared.Ruling.{Ruling}
-use Rattle.descriptor.specs.declared.Ruling.TheVariants.{Allowed, TurnedDown}
+use Rattle.descriptor.specs.Names.{Ruling}
+use Rattle.std.specs.Prelude.{Ok, Err}
 use Rattle.descriptor.specs.declared.TariffPart.TheVariants.{None as NoTariff, Keep as KeepTariff, Rate, Em, Phased}
 use Rattle.descriptor.specs.declared.BurstPart.{BurstPart}
 use Rattle.descriptor.specs.declared.BurstPart.TheVariants.{None as NoBurst, Keep as KeepBurst, Start}
@@ -153,23 +153,23 @@ module _ (l : Line) (cfg : Config l.pulse l.spacing) (good : Good l.spacing l.ph
 
   changed : (k' : Option ℕ) (d : Reading) (u : Ruling) → ruling_of l (describe k' d) ≡ u → EffectOf (describe k' d) (answered (described_by u d l))
   unfolding tariff_changed burst_changed
-  changed k' d (TurnedDown r) e = stays refl refl refl refl owing
-  changed k' unreadable Allowed e = absurd (unreadable-refused S (is_endless l.state.tariff) (is_running l.state.burst) l.serial k' e)
-  changed k' senseless Allowed e = absurd (senseless-refused S (is_endless l.state.tariff) (is_running l.state.burst) l.serial k' e)
-  changed k' (descriptor t ls NoBurst) Allowed e = cancels refl
-  changed k' (descriptor t ls (Start n P)) Allowed e =
+  changed k' d (Err r) e = stays refl refl refl refl owing
+  changed k' unreadable (Ok tt) e = absurd (unreadable-refused S (is_endless l.state.tariff) (is_running l.state.burst) l.serial k' e)
+  changed k' senseless (Ok tt) e = absurd (senseless-refused S (is_endless l.state.tariff) (is_running l.state.burst) l.serial k' e)
+  changed k' (descriptor t ls NoBurst) (Ok tt) e = cancels refl
+  changed k' (descriptor t ls (Start n P)) (Ok tt) e =
       let endless : Bool = is_endless l.state.tariff in
       let runs : Bool = is_running l.state.burst in
       absurd (let running : runs ≡ true = rw owing (lt-ltb 0 g (omega arith)) in let idle = starts_idle S endless runs t ls n P (allowed-reading S endless runs l.serial k' (descriptor t ls (Start n P)) e) in let o : ◌≡◌ {A = ℕ} 0 1 = cc in omega arith)
-  changed k' (descriptor NoTariff ls KeepBurst) Allowed e = stops refl refl refl refl owing
-  changed k' (descriptor KeepTariff ls KeepBurst) Allowed e = stays refl refl refl refl owing
-  changed k' (descriptor (Rate P) ls KeepBurst) Allowed e = stays refl refl refl (next-rate P l.state.tariff l.state.wait) owing
-  changed k' (descriptor (Em C P) ls KeepBurst) Allowed e = begins refl refl refl refl owing
-  changed k' (descriptor Phased ls KeepBurst) Allowed e = begins refl refl refl refl owing
+  changed k' (descriptor NoTariff ls KeepBurst) (Ok tt) e = stops refl refl refl refl owing
+  changed k' (descriptor KeepTariff ls KeepBurst) (Ok tt) e = stays refl refl refl refl owing
+  changed k' (descriptor (Rate P) ls KeepBurst) (Ok tt) e = stays refl refl refl (next-rate P l.state.tariff l.state.wait) owing
+  changed k' (descriptor (Em C P) ls KeepBurst) (Ok tt) e = begins refl refl refl refl owing
+  changed k' (descriptor Phased ls KeepBurst) (Ok tt) e = begins refl refl refl refl owing
 
   ruled : (n : ℕ) (u : Ruling) → EffectOf (period n) (answered (answered_by u l (with_period l n) 0))
-  ruled n Allowed = stays refl refl refl refl owing
-  ruled n (TurnedDown r) = stays refl refl refl refl owing
+  ruled n (Ok tt) = stays refl refl refl refl owing
+  ruled n (Err r) = stays refl refl refl refl owing
 
   pub effect : (c : Call) → EffectOf c (step l c)
   unfolding step ask_of hook_of period_of no_period_of audit_of

@@ -19,7 +19,7 @@ use Rattle.burst.specs.declared.Burst.{Burst as Bursting}
 use Rattle.ticking.specs.Moves.{burst_after, moved_by}
 use Rattle.line.specs.Lines.{hook_of, period_of, no_period_of, audit_of, ask_of, tick_of, answered_by}
 use Rattle.line.specs.declared.Line.{Line}
-use Rattle.demand.specs.Names.{Front, NoFront, TariffFront, BurstFront, Phase, TariffPart, NoTariff, KeepTariff, Rate, Em, Phased, BurstPart, NoBurst, KeepBurst, Start, KeepHook, Stop, Ruling, Allowed, TurnedDown, Reading, unreadable, senseless, descriptor}
+use Rattle.demand.specs.Names.{Front, NoFront, TariffFront, BurstFront, Phase, TariffPart, NoTariff, KeepTariff, Rate, Em, Phased, BurstPart, NoBurst, KeepBurst, Start, KeepHook, Stop, Ruling, Ok, Err, Reading, unreadable, senseless, descriptor}
 use Rattle.demand.specs.Calls.{Call, describe, ask, hook, period, no_period, audit, tick, Answer}
 use Rattle.demand.specs.Serials.{is_change}
 use Rattle.demand.specs.Machine.{ruling_of, Outcome, outcome, answered, step}
@@ -28,7 +28,7 @@ use Rattle.demand.proofs.Described.{change_of, describe-step}
 -- ---- the table: an endless em more, or a burst less, turns nothing down
 module _ (S : ℕ) (t : TariffPart) (ls : Lists) (b : BurstPart) where
   abbrev Allows : Bool → Bool → Type 0
-  Allows e r = ruling (descriptor_causes S e r t ls b) ≡ Allowed
+  Allows e r = ruling (descriptor_causes S e r t ls b) ≡ Ok tt
 
 more-endless : (S : ℕ) (t : TariffPart) (ls : Lists) (b : BurstPart) (r : Bool) → Allows S t ls b false r → Allows S t ls b true r
 unfolding ruling
@@ -38,7 +38,7 @@ more-endless S (Rate P) ls b r x = absurd (let o : ◌≡◌ {A = ℕ} 0 1 = cc 
 more-endless S (Em C P) ls b r x = x
 more-endless S Phased ls b r x = x
 
-runs_last : (a : Bool) (cs : List Cause) → ruling (cs ++ (cause Burst a ∷ cause BurstRuns true ∷ [])) ≡ Allowed → ⊥
+runs_last : (a : Bool) (cs : List Cause) → ruling (cs ++ (cause Burst a ∷ cause BurstRuns true ∷ [])) ≡ Ok tt → ⊥
 unfolding ruling
 runs_last true [] x = let o : ◌≡◌ {A = ℕ} 0 1 = cc in omega arith
 runs_last false [] x = let o : ◌≡◌ {A = ℕ} 0 1 = cc in omega arith
@@ -90,7 +90,7 @@ aged-on D b e = cases (completes_of D b) (λ h. absurd (true≢false (sym (rw h 
 
 -- ---- each call
 abbrev pub Favours : Reading → Line → Type 0
-Favours d l = ruling_of l (describe none d) ≡ Allowed
+Favours d l = ruling_of l (describe none d) ≡ Ok tt
 
 tick_favours : (d : Reading) (l : Line) → Favours d l → Favours d (tick_of l).line
 unfolding tick_of moved_by
@@ -105,8 +105,8 @@ abbrev Keeps : Reading → Line → Outcome → Type 0
 Keeps d l (outcome a l') = is_change a ≡ 0 → Favours d l → Favours d l'
 
 ruled : (d : Reading) (u : Ruling) (l changed : Line) (k : ℕ) → Keeps d l (answered (answered_by u l changed k))
-ruled d Allowed l changed k = λ no x. absurd (omega arith)
-ruled d (TurnedDown r) l changed k = λ no x. x
+ruled d (Ok tt) l changed k = λ no x. absurd (omega arith)
+ruled d (Err r) l changed k = λ no x. x
 
 step_keeps : (d : Reading) (l : Line) (c : Call) → Keeps d l (step l c)
 unfolding step ask_of hook_of period_of no_period_of audit_of

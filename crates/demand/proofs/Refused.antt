@@ -2,8 +2,8 @@
 use mathlib.Core.Path.{◌≡◌}
 use Prim.Native.Nat.{ℕ}
 use native.Mathlib.Omega.{arith}
-use Rattle.descriptor.specs.declared.Ruling.{Ruling}
-use Rattle.descriptor.specs.declared.Ruling.TheVariants.{Allowed, TurnedDown}
+use Rattle.descriptor.specs.Names.{Ruling}
+use Rattle.std.specs.Prelude.{Ok, Err}
 use Rattle.descriptor.specs.declared.Hook.TheVariants.{Keep, Stop}
 use Rattle.line.specs.Lines.{ask_of, hook_of, period_of, no_period_of, audit_of, answered_by}
 use Rattle.line.specs.declared.Line.{Line}
@@ -12,8 +12,8 @@ use Rattle.demand.specs.Machine.{ruling_of, outcome, answered, step}
 use Rattle.demand.proofs.Described.{describe-step}
 
 ruled-keeps : (u : Ruling) (l changed l' : Line) (k n : ℕ) → answered (answered_by u l changed k) ≡ outcome (refused n) l' → l' ≡ l
-ruled-keeps Allowed l changed l' k n e = absurd (let o : ◌≡◌ {A = ℕ} 0 1 = cc in omega arith)
-ruled-keeps (TurnedDown r) l changed l' k n e = cc
+ruled-keeps (Ok tt) l changed l' k n e = absurd (let o : ◌≡◌ {A = ℕ} 0 1 = cc in omega arith)
+ruled-keeps (Err r) l changed l' k n e = cc
 
 pub refused-keeps : (l l' : Line) (c : Call) (n : ℕ) → step l c ≡ outcome (refused n) l' → l' ≡ l
 unfolding step ask_of hook_of period_of no_period_of audit_of

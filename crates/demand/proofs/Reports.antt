@@ -10,7 +10,7 @@ use lib.Dec.{leb}
 use Rattle.answers.specs.Fronts.{if_front, is_front}
 use Rattle.descriptor.specs.Refusals.{sound_configuration}
 use Rattle.state.specs.Rules.{one_more, report_due}
-use Rattle.demand.specs.Names.{Front, NoFront, TariffFront, BurstFront, Allowed, TurnedDown}
+use Rattle.demand.specs.Names.{Front, NoFront, TariffFront, BurstFront, Ok, Err}
 use Rattle.demand.specs.Calls.{Call, Answer, Entry, asks}
 use Rattle.demand.specs.History.{unless_refused, told, front_of, ticks, zeroed_by, since_report, period_in}
 use Rattle.demand.specs.Answers.{tick_after}
@@ -34,8 +34,8 @@ front_below BurstFront rp n m f set = left_below rp n set
 module _ (D S : ℕ) (h : List Entry) where
   kind-below : (c : Call) (a : Answer) → Kind D S h c a → is_front (told a).front ≡ 1 → 0 < period_in h →
       zeroed_by (unless_refused a (asks c)).tariff (cond (told a).report 0 (if_front (told a).front (one_more (since_report h)) (since_report h))) < period_in h
-  kind-below c a (to_command Allowed e n) f set = absurd (omega arith)
-  kind-below c a (to_command (TurnedDown r) e n) f set = absurd (omega arith)
+  kind-below c a (to_command (Ok tt) e n) f set = absurd (omega arith)
+  kind-below c a (to_command (Err r) e n) f set = absurd (omega arith)
   kind-below c a (to_ask n) f set = absurd (omega arith)
   kind-below c a (to_audit n) f set = absurd (omega arith)
   kind-below c a (to_tick n) f set = rw n (front_below (tick_after D S h (ticks h + 1)).front (period_in h) (one_more (since_report h)) (since_report h) f set)

@@ -10,8 +10,8 @@ use Rattle.slots.specs.Slots.{nothing, runs_endless}
 use Rattle.phase_lists.specs.Lists.{phases_of}
 use Rattle.phase_lists.specs.Tables.{no_phases}
 use Rattle.descriptor.specs.Refusals.{ruling}
-use Rattle.descriptor.specs.declared.Ruling.{Ruling}
-use Rattle.descriptor.specs.declared.Ruling.TheVariants.{Allowed, TurnedDown}
+use Rattle.descriptor.specs.Names.{Ruling}
+use Rattle.std.specs.Prelude.{Ok, Err}
 use Rattle.descriptor.specs.declared.TariffPart.TheVariants.{None as NoTariff}
 use Rattle.descriptor.specs.declared.BurstPart.TheVariants.{None as NoBurst}
 use Rattle.descriptor.specs.declared.Hook.TheVariants.{Keep, Stop}
@@ -64,16 +64,16 @@ module _ (D S clock : ℕ) (cfg : Config D S) where
   module _ (h : List Entry) {l : Line} (x : Coupled D S clock h l) (s : l.serial ≡ serial_in h) where
     describe-right : (k : Option ℕ) (d : Reading) (u : Ruling) → ruling_after D S h (describe k d) ≡ u → Right h (describe k d) (answered (described_by u d l))
     unfolding answer_after ticks last_front burst_in running fronts_since_em since_report period_in
-    describe-right k unreadable Allowed e = absurd (unreadable-refused S (runs_endless (running D S h)) (burst_runs D (burst_in h) (ticks h)) (serial_in h) k e)
-    describe-right k senseless Allowed e = absurd (senseless-refused S (runs_endless (running D S h)) (burst_runs D (burst_in h) (ticks h)) (serial_in h) k e)
-    describe-right k (descriptor t ls b) Allowed e =
+    describe-right k unreadable (Ok tt) e = absurd (unreadable-refused S (runs_endless (running D S h)) (burst_runs D (burst_in h) (ticks h)) (serial_in h) k e)
+    describe-right k senseless (Ok tt) e = absurd (senseless-refused S (runs_endless (running D S h)) (burst_runs D (burst_in h) (ticks h)) (serial_in h) k e)
+    describe-right k (descriptor t ls b) (Ok tt) e =
         let endless : Bool = runs_endless (running D S h) in
         let runs : Bool = burst_runs D (burst_in h) (ticks h) in
         let both = taken S endless runs t ls b (running D S h) refl (allowed-reading S endless runs (serial_in h) k (descriptor t ls b) e) in
         (ap (λ (n : ℕ). accepted (cancelled_by b n)) (owed-agrees h x) ∙ ruled D S h (describe k (descriptor t ls b)) e, with-total D S clock (zeroed_held t (fronts_since_em h)) (serial-at D S clock _ (burst-at D S clock cfg runs b both.1 (tariff-at D S clock cfg t (phases_of ls) both.0 x))))
-    describe-right k unreadable (TurnedDown r) e = (ruled D S h (describe k unreadable) e, x)
-    describe-right k senseless (TurnedDown r) e = (ruled D S h (describe k senseless) e, x)
-    describe-right k (descriptor t ls b) (TurnedDown r) e = (ruled D S h (describe k (descriptor t ls b)) e, x)
+    describe-right k unreadable (Err r) e = (ruled D S h (describe k unreadable) e, x)
+    describe-right k senseless (Err r) e = (ruled D S h (describe k senseless) e, x)
+    describe-right k (descriptor t ls b) (Err r) e = (ruled D S h (describe k (descriptor t ls b)) e, x)
 
     described-right : (k : Option ℕ) (d : Reading) → Right h (describe k d) (step l (describe k d))
     described-right k d = rw (describe-step l k d, rulings_agree h x s (describe k d)) (describe-right k d (ruling_after D S h (describe k d)) refl)
@@ -85,8 +85,8 @@ module _ (D S clock : ℕ) (cfg : Config D S) where
 
     period-right : (n : ℕ) (u : Ruling) → ruling_after D S h (period n) ≡ u → Right h (period n) (answered (answered_by u l (with_period l n) 0))
     unfolding answer_after ticks last_front burst_in running fronts_since_em since_report period_in
-    period-right n Allowed e = (ruled D S h (period n) e, serial-at D S clock _ (period-at D S clock cfg n x))
-    period-right n (TurnedDown r) e = (ruled D S h (period n) e, x)
+    period-right n (Ok tt) e = (ruled D S h (period n) e, serial-at D S clock _ (period-at D S clock cfg n x))
+    period-right n (Err r) e = (ruled D S h (period n) e, x)
 
     pub step_right : (c : Call) → Right h c (step l c)
     unfolding step ask_of hook_of period_of no_period_of audit_of answer_after ruling ticks last_front burst_in running fronts_since_em since_report period_in tariff_changed burst_changed

@@ -7,7 +7,7 @@ use Rattle.state.specs.Rules.{one_more}
 use Rattle.line.specs.Lines.{hook_of, period_of, no_period_of, audit_of, ask_of, tick_of, answered_by, tariff_changed, burst_changed}
 use Rattle.line.specs.declared.Line.{Line}
 use Rattle.grammar.specs.Meaning.{Reading, unreadable, senseless, descriptor}
-use Rattle.demand.specs.Names.{Phase, TariffPart, NoTariff, KeepTariff, Rate, Em, Phased, BurstPart, NoBurst, KeepBurst, Start, KeepHook, Stop, Ruling, Allowed, TurnedDown}
+use Rattle.demand.specs.Names.{Phase, TariffPart, NoTariff, KeepTariff, Rate, Em, Phased, BurstPart, NoBurst, KeepBurst, Start, KeepHook, Stop, Ruling, Ok, Err}
 use Rattle.demand.specs.Calls.{Call, describe, ask, hook, period, no_period, audit, tick, Answer, accepted, refused, asked, counters, ticked}
 use Rattle.demand.specs.Serials.{is_change}
 use Rattle.demand.specs.Machine.{ruling_of, Outcome, outcome, answered, step}
@@ -48,8 +48,8 @@ abbrev SerialOf : Line → Outcome → Type 0
 SerialOf l (outcome a l') = l'.serial ≡ serial_by a l.serial
 
 ruled : (u : Ruling) (l changed : Line) (k : ℕ) → changed.serial ≡ l.serial → SerialOf l (answered (answered_by u l changed k))
-ruled Allowed l changed k e = ap one_more e
-ruled (TurnedDown r) l changed k e = refl
+ruled (Ok tt) l changed k e = ap one_more e
+ruled (Err r) l changed k e = refl
 
 serial-step : (l : Line) (c : Call) → SerialOf l (step l c)
 unfolding step hook_of period_of no_period_of audit_of ask_of tick_of

@@ -12,7 +12,7 @@ use Rattle.steps.specs.Steps.{step_of}
 use Rattle.tariff.specs.declared.Slot.{Slot}
 use Rattle.tariff.specs.declared.Slot.TheVariants.{None as NoSlot, Empty, Pulse}
 use Rattle.slots.specs.Slots.{slot_at}
-use Rattle.descriptor.specs.declared.Ruling.TheVariants.{Allowed, TurnedDown}
+use Rattle.std.specs.Prelude.{Ok, Err}
 use Rattle.ticking.specs.Rules.{front_at}
 use Rattle.line.specs.declared.Line.{Line}
 use Rattle.demand.specs.Calls.{Call, Answer, Entry, Asked, asks}
@@ -55,8 +55,8 @@ module _ (D S clock : ℕ) (cfg : Config D S) where
   module _ (small : clock < 2 ^ 32) where
     front-passed : (h : List Entry) {l : Line} → Coupled D S clock h l → (c : Call) (a : Answer) → Kind D S h c a → is_front (told a).front ≡ 1 →
         (passed S (last_front h) (ticks h + 1) ≡ true) × ((unless_refused a (asks c)).tick ≡ true)
-    front-passed h x c a (to_command Allowed e s) f = absurd (omega arith)
-    front-passed h x c a (to_command (TurnedDown r) e s) f = absurd (omega arith)
+    front-passed h x c a (to_command (Ok tt) e s) f = absurd (omega arith)
+    front-passed h x c a (to_command (Err r) e s) f = absurd (omega arith)
     front-passed h x c a (to_ask s) f = absurd (omega arith)
     front-passed h x c a (to_audit s) f = absurd (omega arith)
     front-passed h x c a (to_tick t) f = (due-passed h x _ _ refl refl f, ap (λ (y : Asked). y.tick) t)

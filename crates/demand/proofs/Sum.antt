@@ -11,7 +11,7 @@ use Rattle.answers.specs.declared.Front.TheVariants.{None}
 use Rattle.tariff.specs.declared.Slot.{Slot}
 use Rattle.tariff.specs.declared.Slot.TheVariants.{None as NoSlot, Empty, Pulse}
 use Rattle.slots.specs.Slots.{slot_at, runs_endless}
-use Rattle.descriptor.specs.declared.Ruling.TheVariants.{Allowed, TurnedDown}
+use Rattle.std.specs.Prelude.{Ok, Err}
 use Rattle.descriptor.specs.declared.BurstPart.{BurstPart}
 use Rattle.descriptor.specs.declared.BurstPart.TheVariants.{None as NoBurst, Keep as KeepBurst, Start}
 use Rattle.descriptor.specs.declared.Hook.TheVariants.{Keep, Stop}
@@ -59,7 +59,7 @@ Balanced e now b = pulses_of (granted e).burst + owed_of b ≡ is_burst_front (f
 
 module _ (D S : ℕ) (h : List Entry) (k : ℕ) (on : Bool) where
   -- a start is allowed only where nothing is owed
-  start_owes : (c : Call) (n P : ℕ) → ruling_after D S h c ≡ Allowed → (asks c).burst ≡ Start n P → owed h ≡ 0
+  start_owes : (c : Call) (n P : ℕ) → ruling_after D S h c ≡ Ok tt → (asks c).burst ≡ Start n P → owed h ≡ 0
   start_owes (describe k unreadable) n P e f = absurd (let o : ◌≡◌ {A = ℕ} 0 1 = cc in omega arith)
   start_owes (describe k senseless) n P e f = absurd (let o : ◌≡◌ {A = ℕ} 0 1 = cc in omega arith)
   start_owes (describe k (descriptor t ls b)) n P e f =
@@ -86,8 +86,8 @@ module _ (D S : ℕ) (h : List Entry) (k : ℕ) (on : Bool) where
   front_owes Pulse may b r = omega arith
 
   balanced : (c : Call) (a : Answer) → Kind D S h c a → Balanced (record { call = c; answer = a; clock = k; on = on }) (ticks h + 1) (burst_in h)
-  balanced c a (to_command Allowed e s) = part_owes (asks c).burst (λ n P f. start_owes c n P e f)
-  balanced c a (to_command (TurnedDown r) e s) = omega arith
+  balanced c a (to_command (Ok tt) e s) = part_owes (asks c).burst (λ n P f. start_owes c n P e f)
+  balanced c a (to_command (Err r) e s) = omega arith
   balanced c a (to_ask s) = rw s (omega arith)
   balanced c a (to_audit s) = rw s (omega arith)
   balanced c a (to_tick s) =

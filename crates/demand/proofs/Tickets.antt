@@ -11,7 +11,7 @@ use Rattle.descriptor.specs.Refusals.{ruling, sound_configuration}
 use Rattle.descriptor.specs.Cancelled.{cancelled_by}
 use Rattle.descriptor.specs.declared.Refusal.TheVariants.{Ticket, Serial}
 use Rattle.line.specs.declared.Line.{Line}
-use Rattle.demand.specs.Names.{Ruling, Allowed, TurnedDown, Reading}
+use Rattle.demand.specs.Names.{Ruling, Ok, Err, Reading}
 use Rattle.demand.specs.Calls.{Call, describe, ask, hook, period, no_period, audit, tick, Answer, accepted, refused, asked, Entry, asks}
 use Rattle.demand.specs.History.{sum, owed}
 use Rattle.demand.specs.Serials.{is_change, changes, serial_in}
@@ -26,7 +26,7 @@ use Rattle.demand.proofs.Run.{Run, more, cut, coupled, serial-is, rulings_agree,
 use Rattle.demand.proofs.Demand.{config, run-part}
 
 -- ---- what the paper has them answer
-by-ticket : (same top : Bool) (u : Ruling) (k : ℕ) → ruled_answer (cond (not same) (TurnedDown Ticket) (cond top (TurnedDown Serial) u)) k ≡ cond same (cond top (refused 17) (ruled_answer u k)) (refused 16)
+by-ticket : (same top : Bool) (u : Ruling) (k : ℕ) → ruled_answer (cond (not same) (Err Ticket) (cond top (Err Serial) u)) k ≡ cond same (cond top (refused 17) (ruled_answer u k)) (refused 16)
 by-ticket true true u k = refl
 by-ticket true false u k = refl
 by-ticket false top u k = refl
@@ -47,19 +47,19 @@ module _ (D S : ℕ) (h : List Entry) (d : Reading) where
       ap (λ (a : Answer). asked a (serial_in h)) (rw same at (commit-answer (serial_in h)))
 
   -- an answer that accepts shows that the table allows it, and that the serial is not at its top
-  allowed-by : (u : Ruling) (k j : ℕ) → ruled_answer u k ≡ accepted j → u ≡ Allowed
-  allowed-by Allowed k j e = refl
-  allowed-by (TurnedDown r) k j e = absurd (let o : ◌≡◌ {A = ℕ} 0 1 = cc in omega arith)
+  allowed-by : (u : Ruling) (k j : ℕ) → ruled_answer u k ≡ accepted j → u ≡ Ok tt
+  allowed-by (Ok tt) k j e = refl
+  allowed-by (Err r) k j e = absurd (let o : ◌≡◌ {A = ℕ} 0 1 = cc in omega arith)
 
   below_top : (top : Bool) (a : Answer) (j : ℕ) → cond top (refused 17) a ≡ accepted j → (top ≡ false) × (a ≡ accepted j)
   below_top true a j e = absurd (let o : ◌≡◌ {A = ℕ} 0 1 = cc in omega arith)
   below_top false a j e = (refl, e)
 
-  gets-allowed : (j : ℕ) → gets ≡ accepted j → ruling_after D S h (describe none d) ≡ Allowed
+  gets-allowed : (j : ℕ) → gets ≡ accepted j → ruling_after D S h (describe none d) ≡ Ok tt
   unfolding answer_after
   gets-allowed j e = allowed-by (ruling_after D S h (describe none d)) _ j e
 
-  allowed-gets : ruling_after D S h (describe none d) ≡ Allowed → (j : ℕ) × (gets ≡ accepted j)
+  allowed-gets : ruling_after D S h (describe none d) ≡ Ok tt → (j : ℕ) × (gets ≡ accepted j)
   unfolding answer_after
   allowed-gets e = (cancelled_by (asks (describe none d)).burst (owed h), sym (ruled D S h (describe none d) e))
 
@@ -76,7 +76,7 @@ asked-parts v w m n e = (cc, cc)
 module _ (D S clock : ℕ) (cfg : Config D S) (small : clock < 2 ^ 32) where
   -- the entries in between, none of them accepted, leave what the line would accept
   between_keeps : {l : Line} (d : Reading) (between h : List Entry) → Run D S clock cfg (between ++ h) l → changes between ≡ 0 →
-      ruling_after D S h (describe none d) ≡ Allowed → ruling_after D S (between ++ h) (describe none d) ≡ Allowed
+      ruling_after D S h (describe none d) ≡ Ok tt → ruling_after D S (between ++ h) (describe none d) ≡ Ok tt
   unfolding sum
   between_keeps d [] h r z e = e
   between_keeps d (x ∷ between) h (more {l = l} {l' = l'} {c = c} {a = a} r q) z e =

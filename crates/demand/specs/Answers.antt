@@ -1,7 +1,7 @@
 -- What the paper has each call answer, after a history.
 use Rattle.std.specs.Prelude.{Bool, false, ◌&&◌, List, ℕ, ◌+◌, ◌-◌, min}
 use Rattle.std.proofs.Math.Option.{some}
-use Rattle.demand.specs.Names.{Tick, Ruling, Allowed, TurnedDown, cancelled_by, if_front, ruling, refusal_number}
+use Rattle.demand.specs.Names.{Tick, Ruling, Ok, Err, cancelled_by, if_front, ruling, refusal_number}
 use Rattle.demand.specs.Names.{one_more, report_due, front_at, slot_at, quiet_for, completes_at, runs_endless}
 use Rattle.demand.specs.Calls.{Call, describe, ask, hook, period, no_period, audit, tick, asks, causes}
 use Rattle.demand.specs.Calls.{Entry, Answer, accepted, refused, asked, counters, ticked}
@@ -35,7 +35,7 @@ module _ (D S : ℕ) (h : List Entry) where
   abbrev pub command_answer : Call → Answer
   command_answer c =
       elim (ruling_after c)
-      [ Allowed ↦ accepted (cancelled_by (asks c).burst (owed h)) | TurnedDown r ↦ refused (refusal_number r) ]
+      [ Ok tt ↦ accepted (cancelled_by (asks c).burst (owed h)) | Err r ↦ refused (refusal_number r) ]
 
   -- asking answers what a commit with the serial would be answered, and the serial
   unfoldable pub answer_after : Call → Answer

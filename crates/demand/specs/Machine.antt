@@ -1,5 +1,5 @@
 -- The history of a list of calls, each made on the line that the one before handed back or left.
-use Rattle.std.specs.Prelude.{List, [], ◌∷◌, ℕ}
+use Rattle.std.specs.Prelude.{List, [], ◌∷◌, ℕ, Ok, Err}
 use Rattle.std.proofs.Math.Option.{none, some}
 use Rattle.tariff.specs.Tariffs.{is_endless}
 use Rattle.descriptor.specs.Refusals.{refusal_number, ruling}
@@ -7,8 +7,7 @@ use Rattle.burst.specs.Bursts.{is_running}
 use Rattle.line.specs.Lines.{make_of, read_answer, commit_of, ask_of, hook_of, period_of, no_period_of, audit_of}
 use Rattle.line.specs.Lines.{tick_of, on_of}
 use Rattle.line.specs.declared.Line.{Line}
-use Rattle.line.specs.declared.Verdict.{Verdict}
-use Rattle.line.specs.declared.Verdict.TheVariants.{Accepted, Refused}
+use Rattle.line.specs.Lines.{Verdict}
 use Rattle.line.specs.declared.Answered.{Answered}
 use Rattle.line.specs.declared.Asked.{Asked}
 use Rattle.line.specs.declared.Audited.{Audited}
@@ -32,8 +31,8 @@ commit ticket d = describe (some ticket) d
 
 -- the number and the value of each case of a verdict
 abbrev pub verdict_told : Verdict → Answer
-verdict_told (Accepted k) = accepted k
-verdict_told (Refused r) = refused (refusal_number r)
+verdict_told (Ok k) = accepted k
+verdict_told (Err r) = refused (refusal_number r)
 
 -- a call's answer and the line after it
 pub data Outcome : Type 0 where

@@ -13,8 +13,8 @@ pub use Rattle.descriptor.specs.declared.BurstPart.{BurstPart}
 pub use Rattle.descriptor.specs.declared.BurstPart.TheVariants.{None as NoBurst, Keep as KeepBurst, Start}
 pub use Rattle.descriptor.specs.declared.Hook.{Hook}
 pub use Rattle.descriptor.specs.declared.Hook.TheVariants.{Keep as KeepHook, Stop}
-pub use Rattle.descriptor.specs.declared.Ruling.{Ruling}
-pub use Rattle.descriptor.specs.declared.Ruling.TheVariants.{Allowed, TurnedDown}
+pub use Rattle.descriptor.specs.Names.{Ruling}
+pub use Rattle.std.specs.Prelude.{Ok, Err}
 pub use Rattle.descriptor.specs.declared.Refusal.TheVariants.{Grammar, Content}
 pub use Rattle.descriptor.specs.Refusals.{refusal_number, Cause, cause, ruling, descriptor_causes, period_causes}
 pub use Rattle.descriptor.specs.Refusals.{ticket_causes}

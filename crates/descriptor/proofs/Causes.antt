@@ -6,15 +6,15 @@ use Prim.Native.Nat.{ℕ}
 use native.Mathlib.Omega.{arith}
 use Rattle.descriptor.specs.Refusals.{Cause, cause, ruling}
 use Rattle.descriptor.specs.Rulings.{and_then}
-use Rattle.descriptor.specs.declared.Ruling.TheVariants.{Allowed}
+use Rattle.std.specs.Prelude.{Ok}
 use Rattle.descriptor.specs.declared.Refusal.{Refusal}
 
-pub none_first : (r : Refusal) (b : Bool) (cs : List Cause) → ruling (cause r b ∷ cs) ≡ Allowed → (b ≡ false) × (ruling cs ≡ Allowed)
+pub none_first : (r : Refusal) (b : Bool) (cs : List Cause) → ruling (cause r b ∷ cs) ≡ Ok tt → (b ≡ false) × (ruling cs ≡ Ok tt)
 unfolding ruling
 none_first r true cs h = absurd (let o : ◌≡◌ {A = ℕ} 0 1 = cc in omega arith)
 none_first r false cs h = (refl, h)
 
-pub none_after : (cs ds : List Cause) → ruling (cs ++ ds) ≡ Allowed → (ruling cs ≡ Allowed) × (ruling ds ≡ Allowed)
+pub none_after : (cs ds : List Cause) → ruling (cs ++ ds) ≡ Ok tt → (ruling cs ≡ Ok tt) × (ruling ds ≡ Ok tt)
 unfolding ruling
 none_after [] ds h = (refl, h)
 none_after (cause r b ∷ cs) ds h =

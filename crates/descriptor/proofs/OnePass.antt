@@ -21,7 +21,7 @@ use Rattle.descriptor.specs.Rulings.{carried_ruling}
 use Rattle.descriptor.specs.OnePass.{OnePass}
 use Rattle.descriptor.specs.declared.TariffPart.TheVariants.{Phased}
 use Rattle.descriptor.specs.declared.Refusal.TheVariants.{Lists as PhaseLists}
-use Rattle.descriptor.specs.declared.Ruling.TheVariants.{TurnedDown}
+use Rattle.std.specs.Prelude.{Err}
 
 module _ (S : ℕ) (e b : Bool) where
   -- of seven lists of one length
@@ -42,7 +42,7 @@ module _ (S : ℕ) (e b : Bool) where
   unfolding table_of ruling first_phases carried phase_count
   lists_verdict ls = cases (one_length ls) (λ t. rw t (whole-verdict ls t)) (λ t. rw (t, uneven ls t))
 
-  many-refused : (ps : List Phase) → 8 < length ps → carried_ruling (carried S ps) ≡ TurnedDown PhaseLists
+  many-refused : (ps : List Phase) → 8 < length ps → carried_ruling (carried S ps) ≡ Err PhaseLists
   many-refused ps many =
       let n = length ps in
       rw (carried-count S ps, held-within n, lt-leb n 8 many, and-false (leb 1 n))

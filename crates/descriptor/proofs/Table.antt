@@ -12,8 +12,8 @@ use Rattle.descriptor.specs.declared.TariffPart.TheVariants.{None as NoTariff, K
 use Rattle.descriptor.specs.declared.BurstPart.{BurstPart}
 use Rattle.descriptor.specs.declared.BurstPart.TheVariants.{None as NoBurst, Keep as KeepBurst, Start}
 use Rattle.descriptor.specs.declared.Refusal.{Refusal}
-use Rattle.descriptor.specs.declared.Ruling.{Ruling}
-use Rattle.descriptor.specs.declared.Ruling.TheVariants.{Allowed, TurnedDown}
+use Rattle.descriptor.specs.Names.{Ruling}
+use Rattle.std.specs.Prelude.{Ok, Err}
 
 -- r stands in the list of causes, and applies
 pub data Applies (r : Refusal) : List Cause → Type 0 where
@@ -25,25 +25,25 @@ abbrev pub Ascending : ℕ → List Cause → Type 0
 Ascending n [] = Unit {0}
 Ascending n (cause r applies ∷ cs) = (n < refusal_number r) × Ascending (refusal_number r) cs
 
-pub none-applies : (cs : List Cause) → ruling cs ≡ Allowed → (r : Refusal) → Applies r cs → ⊥
+pub none-applies : (cs : List Cause) → ruling cs ≡ Ok tt → (r : Refusal) → Applies r cs → ⊥
 unfolding ruling
 none-applies [] e q a = elim a [ ]
 none-applies (cause r true ∷ cs) e q a = absurd (let o : ◌≡◌ {A = ℕ} 0 1 = cc in omega arith)
 none-applies (cause r false ∷ cs) e q (later a) = none-applies cs e q a
 
 -- the ruling is a cause that applies
-pub refused-applies : (cs : List Cause) (r : Refusal) → ruling cs ≡ TurnedDown r → Applies r cs
+pub refused-applies : (cs : List Cause) (r : Refusal) → ruling cs ≡ Err r → Applies r cs
 unfolding ruling
 refused-applies [] r e = absurd (let o : ◌≡◌ {A = ℕ} 0 1 = cc in omega arith)
 refused-applies (cause q true ∷ cs) r e = let same : q ≡ r = cc in rw same here
 refused-applies (cause q false ∷ cs) r e = later (refused-applies cs r e)
 
-pub allowed_exactly : (cs : List Cause) → (ruling cs ≡ Allowed) ↔ ((r : Refusal) → Applies r cs → ⊥)
+pub allowed_exactly : (cs : List Cause) → (ruling cs ≡ Ok tt) ↔ ((r : Refusal) → Applies r cs → ⊥)
 allowed_exactly cs = (none-applies cs, λ none. by (ruling cs) refl none)
   where
-    by : (u : Ruling) → ruling cs ≡ u → ((r : Refusal) → Applies r cs → ⊥) → ruling cs ≡ Allowed
-    by Allowed e none = e
-    by (TurnedDown r) e none = absurd (none r (refused-applies cs r e))
+    by : (u : Ruling) → ruling cs ≡ u → ((r : Refusal) → Applies r cs → ⊥) → ruling cs ≡ Ok tt
+    by (Ok tt) e none = e
+    by (Err r) e none = absurd (none r (refused-applies cs r e))
 
 above : (n : ℕ) (cs : List Cause) (q : Refusal) → Ascending n cs → Applies q cs → n < refusal_number q
 above n [] q a x = elim x [ ]
@@ -51,7 +51,7 @@ above n (cause r b ∷ cs) q a here = a.0
 above n (cause r b ∷ cs) q a (later p) = omega (arith, a.0, above (refusal_number r) cs q a.1 p)
 
 -- and no larger than any that applies
-pub refused_lowest : (n : ℕ) (cs : List Cause) (r q : Refusal) → Ascending n cs → ruling cs ≡ TurnedDown r → Applies q cs → refusal_number r ≤ refusal_number q
+pub refused_lowest : (n : ℕ) (cs : List Cause) (r q : Refusal) → Ascending n cs → ruling cs ≡ Err r → Applies q cs → refusal_number r ≤ refusal_number q
 unfolding ruling
 refused_lowest n [] r q a e x = elim x [ ]
 refused_lowest n (cause p true ∷ cs) r q a e here = let same : p ≡ r = cc in rw same (omega arith)

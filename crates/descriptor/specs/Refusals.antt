@@ -5,7 +5,7 @@ use Rattle.tariff.specs.Ranges.{within}
 use Rattle.rules.specs.Rules.{sound_em, sound_phases}
 use Rattle.phase_lists.specs.Lists.{Lists, phases_of, sound_lists}
 use Rattle.descriptor.specs.Names.{TariffPart, NoTariff, KeepTariff, Rate, Em, Phased}
-use Rattle.descriptor.specs.Names.{BurstPart, NoBurst, KeepBurst, Start, Ruling, Allowed, TurnedDown, Refusal}
+use Rattle.descriptor.specs.Names.{BurstPart, NoBurst, KeepBurst, Start, Ruling, Ok, Err, Refusal}
 use Rattle.descriptor.specs.Names.{Configuration, Period, NoEndlessEm, Interval, PhaseLists, Phase}
 use Rattle.descriptor.specs.Names.{Burst, BurstRuns, Grammar, Content, Row, Place, Ticket, Serial}
 
@@ -32,8 +32,8 @@ pub data Cause : Type 0 where
 
 -- the first cause that applies
 unfoldable pub ruling : List Cause → Ruling
-ruling [] = Allowed
-ruling (cause r applies ∷ rest) = cond applies (TurnedDown r) (ruling rest)
+ruling [] = Ok tt
+ruling (cause r applies ∷ rest) = cond applies (Err r) (ruling rest)
 
 -- D and G, each 1 to 500
 abbrev pub sound_configuration : ℕ → ℕ → Bool

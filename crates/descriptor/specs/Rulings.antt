@@ -1,5 +1,5 @@
 -- The table of refusals as the code goes through it, with the phase lists read and met in one pass.
-use Rattle.std.specs.Prelude.{Bool, cond, ℕ}
+use Rattle.std.specs.Prelude.{Bool, cond, ℕ, Ok, Err}
 use Rattle.tariff.specs.Ranges.{within}
 use Rattle.rules.specs.Rules.{sound_em}
 use Rattle.rules.specs.declared.Carry.{Carry}
@@ -14,8 +14,7 @@ use Rattle.descriptor.specs.declared.BurstPart.{BurstPart}
 use Rattle.descriptor.specs.declared.BurstPart.TheVariants.{None as NoBurst, Keep as KeepBurst, Start}
 use Rattle.descriptor.specs.declared.Refusal.TheVariants.{NoEndlessEm, Interval, Lists as PhaseLists}
 use Rattle.descriptor.specs.declared.Refusal.TheVariants.{Phase as BadPhase, Burst, BurstRuns}
-use Rattle.descriptor.specs.declared.Ruling.{Ruling}
-use Rattle.descriptor.specs.declared.Ruling.TheVariants.{Allowed, TurnedDown}
+use Rattle.descriptor.specs.Names.{Ruling}
 
 -- the lists are looked at only where the tariff part is phased
 abbrev pub table_for : ℕ → TariffPart → Lists → PhaseTable
@@ -31,28 +30,28 @@ ruled_by why sound rest = cond sound rest why
 -- by what the phases leave to carry: their number is judged before the phases
 abbrev pub carried_ruling : Carry → Ruling
 carried_ruling c =
-    ruled_by (TurnedDown PhaseLists) (within 1 8 c.count) (ruled_by (TurnedDown BadPhase) c.sound Allowed)
+    ruled_by (Err PhaseLists) (within 1 8 c.count) (ruled_by (Err BadPhase) c.sound (Ok tt))
 
 -- on a line of spacing S, where e says whether an em with C = 0 runs
 unfoldable pub tariff_ruling : ℕ → Bool → TariffPart → PhaseTable → Ruling
-tariff_ruling S e NoTariff t = Allowed
-tariff_ruling S e KeepTariff t = Allowed
+tariff_ruling S e NoTariff t = Ok tt
+tariff_ruling S e KeepTariff t = Ok tt
 tariff_ruling S e (Rate P) t =
-    ruled_by (TurnedDown NoEndlessEm) e (ruled_by (TurnedDown Interval) (sound_em S 0 P) Allowed)
-tariff_ruling S e (Em C P) t = ruled_by (TurnedDown Interval) (sound_em S C P) Allowed
+    ruled_by (Err NoEndlessEm) e (ruled_by (Err Interval) (sound_em S 0 P) (Ok tt))
+tariff_ruling S e (Em C P) t = ruled_by (Err Interval) (sound_em S C P) (Ok tt)
 tariff_ruling S e Phased t = carried_ruling t.carry
 
 -- where running says whether a burst runs
 unfoldable pub burst_ruling : Bool → BurstPart → Ruling
-burst_ruling running NoBurst = Allowed
-burst_ruling running KeepBurst = Allowed
+burst_ruling running NoBurst = Ok tt
+burst_ruling running KeepBurst = Ok tt
 burst_ruling running (Start n P) =
-    ruled_by (TurnedDown Burst) (sound_burst n P) (cond running (TurnedDown BurstRuns) Allowed)
+    ruled_by (Err Burst) (sound_burst n P) (cond running (Err BurstRuns) (Ok tt))
 
 -- a ruling, or where that is allowed the next
 abbrev pub and_then : Ruling → Ruling → Ruling
-and_then Allowed next = next
-and_then (TurnedDown r) next = TurnedDown r
+and_then (Ok tt) next = next
+and_then (Err r) next = Err r
 
 -- of a descriptor whose phases, if it is phased, are in the table
 abbrev pub descriptor_ruling : ℕ → Bool → Bool → TariffPart → PhaseTable → BurstPart → Ruling

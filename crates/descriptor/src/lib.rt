@@ -55,9 +55,5 @@ pub enum Refusal {
     Serial,
 }
 
-// What the table of refusals makes of a call.
-#[derive(Clone, Copy)]
-pub enum Ruling {
-    Allowed,
-    TurnedDown(Refusal),
-}
+// What the table of refusals makes of a call: it is allowed, or turned down for a cause.
+pub type Ruling = Result<(), Refusal>;

@@ -53,12 +53,9 @@ fn rate_ruling(spacing: u32, endless: bool, interval: u32) -> Ruling
     ensures { result ≡ tariff_ruling spacing endless (Rate interval) no_table }
 {
     if !endless {
-        return Ruling::TurnedDown(Refusal::NoEndlessEm);
+        return Err(Refusal::NoEndlessEm);
     }
-    if !rules::sound_em(spacing, 0, interval) {
-        return Ruling::TurnedDown(Refusal::Interval);
-    }
-    Ruling::Allowed
+    em_ruling(spacing, 0, interval)
 }
 
 // An em is held to its own rule only.
@@ -67,9 +64,9 @@ fn em_ruling(spacing: u32, count: u32, period: u32) -> Ruling
     ensures { result ≡ tariff_ruling spacing false (Em count period) no_table }
 {
     if !rules::sound_em(spacing, count, period) {
-        return Ruling::TurnedDown(Refusal::Interval);
+        return Err(Refusal::Interval);
     }
-    Ruling::Allowed
+    Ok(())
 }
 
 // The number of phases is judged before the phases.
@@ -79,12 +76,12 @@ fn phased_ruling(carry: Carry) -> Ruling
     let few = (1 <= carry.count) & (carry.count <= 8);
     let sound = carry.sound;
     if !few {
-        return Ruling::TurnedDown(Refusal::Lists);
+        return Err(Refusal::Lists);
     }
     if !sound {
-        return Ruling::TurnedDown(Refusal::Phase);
+        return Err(Refusal::Phase);
     }
-    Ruling::Allowed
+    Ok(())
 }
 
 // What the table makes of a tariff part, where `endless` says whether an em with C = 0 runs.
@@ -93,8 +90,8 @@ fn tariff_ruling(spacing: u32, endless: bool, part: TariffPart, table: PhaseTabl
     ensures { result ≡ tariff_ruling spacing endless part table }
 {
     match part {
-        TariffPart::None => Ruling::Allowed,
-        TariffPart::Keep => Ruling::Allowed,
+        TariffPart::None => Ok(()),
+        TariffPart::Keep => Ok(()),
         TariffPart::Rate { interval } => rate_ruling(spacing, endless, interval),
         TariffPart::Em { count, period } => em_ruling(spacing, count, period),
         TariffPart::Phased => phased_ruling(table.carry),
@@ -107,15 +104,15 @@ fn burst_ruling(running: bool, part: BurstPart) -> Ruling
     ensures { result ≡ burst_ruling running part }
 {
     match part {
-        BurstPart::None => Ruling::Allowed,
-        BurstPart::Keep => Ruling::Allowed,
+        BurstPart::None => Ok(()),
+        BurstPart::Keep => Ok(()),
         BurstPart::Start { pulses, interval } => {
             if !sound_burst(pulses, interval) {
-                Ruling::TurnedDown(Refusal::Burst)
+                Err(Refusal::Burst)
             } else if running {
-                Ruling::TurnedDown(Refusal::BurstRuns)
+                Err(Refusal::BurstRuns)
             } else {
-                Ruling::Allowed
+                Ok(())
             }
         }
     }
@@ -133,9 +130,6 @@ pub fn ruling_on(
 ) -> Ruling
     ensures { result ≡ descriptor_ruling spacing endless running tariff table burst }
 {
-    let first = tariff_ruling(spacing, endless, tariff, table);
-    match first {
-        Ruling::TurnedDown(_) => first,
-        Ruling::Allowed => burst_ruling(running, burst),
-    }
+    tariff_ruling(spacing, endless, tariff, table)?;
+    burst_ruling(running, burst)
 }

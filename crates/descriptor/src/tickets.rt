@@ -10,10 +10,10 @@ pub fn ticket_ruling(ticket: u32, serial: u32) -> Ruling
     ensures { result ≡ ruling (ticket_causes ticket serial) }
 {
     if ticket != serial {
-        return Ruling::TurnedDown(Refusal::Ticket);
+        return Err(Refusal::Ticket);
     }
     if serial == u32::MAX {
-        return Ruling::TurnedDown(Refusal::Serial);
+        return Err(Refusal::Serial);
     }
-    Ruling::Allowed
+    Ok(())
 }

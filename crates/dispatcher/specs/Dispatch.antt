@@ -1,6 +1,5 @@
 -- The dispatcher: what waits to be told of each line, whose turn it is, and what one tick of a card sends.
-use Rattle.std.specs.Prelude.{Bool, false, cond, not, ◌&&◌, ◌||◌, List, [], ◌∷◌, map, ℕ, zero, suc, ◌+◌, ◌-◌, min}
-use Rattle.std.specs.Prelude.{ltb, eqb, length, get_or, set, replicate}
+use Rattle.std.specs.Prelude.{Bool, false, cond, not, ◌&&◌, ◌||◌, List, [], ◌∷◌, map, ℕ, zero, suc, ◌+◌, ◌-◌, min, ltb, eqb, length, get_or, set, replicate}
 use Rattle.answers.specs.declared.Tick.{Tick}
 use Rattle.descriptor.specs.declared.Refusal.TheVariants.{Row}
 use Rattle.state.specs.Rules.{one_more}

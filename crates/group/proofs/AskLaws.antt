@@ -10,18 +10,16 @@ use lib.ListN.{length, set}
 use lib.Seq.{set-get_or}
 use Rattle.state.specs.declared.State.{State}
 use Rattle.descriptor.specs.Rulings.{descriptor_ruling}
-use Rattle.descriptor.specs.declared.Ruling.{Ruling}
-use Rattle.descriptor.specs.declared.Ruling.TheVariants.{Allowed, TurnedDown}
+use Rattle.descriptor.specs.Names.{Ruling}
+use Rattle.std.specs.Prelude.{Ok, Err}
 use Rattle.descriptor.specs.declared.TariffPart.TheVariants.{Rate}
 use Rattle.descriptor.specs.declared.BurstPart.TheVariants.{Keep}
 use Rattle.descriptor.specs.declared.Refusal.TheVariants.{Place}
 use Rattle.phase_lists.specs.Tables.{no_table}
 use Rattle.tariff.specs.Tariffs.{is_endless}
 use Rattle.burst.specs.Bursts.{is_running}
-use Rattle.line.specs.Lines.{blank_line}
+use Rattle.line.specs.Lines.{Verdict, blank_line}
 use Rattle.line.specs.declared.Line.{Line}
-use Rattle.line.specs.declared.Verdict.{Verdict}
-use Rattle.line.specs.declared.Verdict.TheVariants.{Accepted, Refused}
 use Rattle.group.specs.Groups.{outside, or_else, first_refusal}
 use Rattle.group.specs.Passes.{is_marked, asked_of, ruled_answer, refused_of, heard_of, step_of, place_in, line_at, with_passed, step_at, row_at, end_of, row_by}
 use Rattle.group.specs.declared.Pass.{Pass}
@@ -53,16 +51,16 @@ asked-row n s ls (p ∷ ps) e =
     (asked-row n (step_at n s ls p).pass (row_at n s ls p) ps (asks-on s n p l.spacing l.serial l.state ∙ e) ∙ asks-row n s ls p e) refl
 
 else_assoc : (u v w : Verdict) → or_else (or_else u v) w ≡ or_else u (or_else v w)
-else_assoc (Accepted k) v w = refl
-else_assoc (Refused r) v w = refl
+else_assoc (Ok k) v w = refl
+else_assoc (Err r) v w = refl
 
 -- an accepted answer of a line is 0
-asked-plain : (S : ℕ) (t : State) (P : ℕ) → or_else (asked_of S t P) (Accepted 0) ≡ asked_of S t P
+asked-plain : (S : ℕ) (t : State) (P : ℕ) → or_else (asked_of S t P) (Ok 0) ≡ asked_of S t P
 asked-plain S t P = by (descriptor_ruling S (is_endless t.tariff) (is_running t.burst) (Rate P) no_table Keep)
   where
-    by : (u : Ruling) → or_else (ruled_answer u) (Accepted 0) ≡ ruled_answer u
-    by Allowed = refl
-    by (TurnedDown r) = refl
+    by : (u : Ruling) → or_else (ruled_answer u) (Ok 0) ≡ ruled_answer u
+    by (Ok tt) = refl
+    by (Err r) = refl
 
 -- what the line at each place would answer
 abbrev pub answers : List Line → ℕ → ℕ → Verdict
@@ -76,7 +74,7 @@ refuses : (n : ℕ) (s : Pass) (ls : List Line) (p : ℕ) → ltb p n ≡ false 
 unfolding step_of
 refuses n s ls p l = rw l
 
-pub asked_end : (n : ℕ) (s : Pass) (ls : List Line) (ps : List ℕ) → s.rates ≡ false → length ps ≤ s.limit → or_else s.verdict (Accepted 0) ≡ s.verdict →
+pub asked_end : (n : ℕ) (s : Pass) (ls : List Line) (ps : List ℕ) → s.rates ≡ false → length ps ≤ s.limit → or_else s.verdict (Ok 0) ≡ s.verdict →
     end_of n s ls ps ≡ cond (outside ps n) (refused_of s Place) (heard_of s (first_refusal (answers ls s.interval) ps))
 unfolding outside first_refusal
 asked_end n s ls [] e l plain = rw plain
@@ -85,8 +83,8 @@ asked_end n s ls (p ∷ ps) e l plain = rw (lt-ltb 0 s.limit (omega arith)) (by 
     a : Verdict
     a = answers ls s.interval p
 
-    still : or_else (or_else s.verdict a) (Accepted 0) ≡ or_else s.verdict a
-    still = else_assoc s.verdict a (Accepted 0) ∙ ap (or_else s.verdict) (asked-plain (line_at ls p).spacing (line_at ls p).state s.interval)
+    still : or_else (or_else s.verdict a) (Ok 0) ≡ or_else s.verdict a
+    still = else_assoc s.verdict a (Ok 0) ∙ ap (or_else s.verdict) (asked-plain (line_at ls p).spacing (line_at ls p).state s.interval)
 
     rest : Verdict
     rest = first_refusal (answers ls s.interval) ps

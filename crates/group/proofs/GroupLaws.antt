@@ -12,8 +12,8 @@ use lib.ListN.{length}
 use Rattle.descriptor.specs.declared.Refusal.{Refusal}
 use Rattle.descriptor.specs.declared.Refusal.TheVariants.{Row, Place}
 use Rattle.line.specs.declared.Line.{Line}
-use Rattle.line.specs.declared.Verdict.{Verdict}
-use Rattle.line.specs.declared.Verdict.TheVariants.{Accepted, Refused}
+use Rattle.line.specs.Lines.{Verdict}
+use Rattle.std.specs.Prelude.{Ok, Err}
 use Rattle.dispatcher.specs.Dispatch.{bad_row}
 use Rattle.group.specs.Groups.{rate_of, named, outside, first_refusal, verdict_of, rated_row, if_accepted, row_of}
 use Rattle.group.specs.Passes.{refused_of, first_of, asking_of, with_limit, that_rates, rating_of, heard_of, line_at, end_of, row_by, Open}
@@ -48,8 +48,8 @@ pub rating_open : (n m : ℕ) (s : Pass) → Open s.limit n m → Open (rating_o
 rating_open n m s o = by s.verdict
   where
     by : (v : Verdict) → Open (if_accepted v (that_rates s) (with_limit s 0)).limit n m
-    by (Accepted k) = o
-    by (Refused r) = inl refl
+    by (Ok k) = o
+    by (Err r) = inl refl
 
 -- ---- no line is rated
 rated-none : (P : ℕ) (ls : List Line) → rated_row (λ i. false) P ls ≡ ls
@@ -68,7 +68,7 @@ module _ (ls : List Line) (ps : List ℕ) (P : ℕ) where
   abbrev Ends : Pass → Verdict → Type 0
   Ends s v = ((end_of n (rating_of s) ls ps).verdict ≡ v) × (row_by n (rating_of s) ls ps ≡ if_accepted v (rated_row (named ps) P ls) ls)
 
-  refused-ends : (s : Pass) (r : Refusal) → s.verdict ≡ Refused r → Ends s (Refused r)
+  refused-ends : (s : Pass) (r : Refusal) → s.verdict ≡ Err r → Ends s (Err r)
   refused-ends s r e =
       let stuck : rating_of s ≡ with_limit s 0 = ap (λ (v : Verdict). if_accepted v (that_rates s) (with_limit s 0)) e in
       (ap (λ (z : Pass). (end_of n z ls ps).verdict) stuck ∙ ap (λ (z : Pass). z.verdict) (end_stuck n 0 (with_limit s 0) ls ps refl) ∙ e, ap (λ (z : Pass). row_by n z ls ps) stuck ∙ row_stuck n 0 (with_limit s 0) ls ps refl)
@@ -83,22 +83,22 @@ module _ (ls : List Line) (ps : List ℕ) (P : ℕ) where
   same-answered : first_refusal (answers ls P) ps ≡ answered
   same-answered = ap (λ (f : ℕ → Verdict). first_refusal f ps) (λ x p. rate-verdict (line_at ls p) P x)
 
-  rated-ends : n ≤ 64 → outside ps n ≡ false → (k : ℕ) → answered ≡ Accepted k → Ends (heard_of s₀ (Accepted k)) (Accepted k)
+  rated-ends : n ≤ 64 → outside ps n ≡ false → (k : ℕ) → answered ≡ Ok k → Ends (heard_of s₀ (Ok k)) (Ok k)
   rated-ends most out k e =
-      let s : Pass = rating_of (heard_of s₀ (Accepted k)) in
+      let s : Pass = rating_of (heard_of s₀ (Ok k)) in
       let fresh : Marks ls most s (λ i. false) = record { rates = refl; marks = λ i l. none-marked i } in
       let end = subst (λ (row : List Line). EndsWith ls most s row ps (named ps)) (rated-none P ls) (rated_end ls most ps s (λ i. false) fresh (omega arith) out k e) in
       (end.1, end.0)
 
   heard-ends : n ≤ 64 → outside ps n ≡ false → (v : Verdict) → answered ≡ v → Ends (heard_of s₀ v) v
-  heard-ends most out (Refused r) e = refused-ends (heard_of s₀ (Refused r)) r refl
-  heard-ends most out (Accepted k) e = rated-ends most out k e
+  heard-ends most out (Err r) e = refused-ends (heard_of s₀ (Err r)) r refl
+  heard-ends most out (Ok k) e = rated-ends most out k e
 
-  asked-ends : n ≤ 64 → (b : Bool) → outside ps n ≡ b → Ends (cond b (refused_of s₀ Place) (heard_of s₀ answered)) (cond b (Refused Place) answered)
+  asked-ends : n ≤ 64 → (b : Bool) → outside ps n ≡ b → Ends (cond b (refused_of s₀ Place) (heard_of s₀ answered)) (cond b (Err Place) answered)
   asked-ends most true out = refused-ends (refused_of s₀ Place) Place refl
   asked-ends most false out = heard-ends most out answered refl
 
-  both : (b : Bool) → bad_row n ≡ b → Ends (end_of n (cond b (refused_of s₀ Row) s₀) ls ps) (cond b (Refused Row) (cond (outside ps n) (Refused Place) answered))
+  both : (b : Bool) → bad_row n ≡ b → Ends (end_of n (cond b (refused_of s₀ Row) s₀) ls ps) (cond b (Err Row) (cond (outside ps n) (Err Place) answered))
   both true e = rw (end_stuck n 0 (refused_of s₀ Row) ls ps refl) (refused-ends (refused_of s₀ Row) Row refl)
   both false e = rw (asked_end n s₀ ls ps refl (omega arith) refl, same-answered) (asked-ends (row_fits n e).1 (outside ps n) refl)
 

@@ -13,8 +13,8 @@ use lib.Seq.{set-get_or}
 use Rattle.phase_lists.specs.Lists.{no_lists}
 use Rattle.phase_lists.specs.Tables.{no_table}
 use Rattle.descriptor.specs.Rulings.{descriptor_ruling}
-use Rattle.descriptor.specs.declared.Ruling.{Ruling}
-use Rattle.descriptor.specs.declared.Ruling.TheVariants.{Allowed, TurnedDown}
+use Rattle.descriptor.specs.Names.{Ruling}
+use Rattle.std.specs.Prelude.{Ok, Err}
 use Rattle.descriptor.specs.declared.TariffPart.TheVariants.{Rate}
 use Rattle.descriptor.specs.declared.BurstPart.TheVariants.{Keep}
 use Rattle.tariff.specs.Tariffs.{is_endless}
@@ -22,11 +22,9 @@ use Rattle.burst.specs.Bursts.{is_running}
 use Rattle.state.specs.Rules.{one_more}
 use Rattle.state.specs.States.{with_rate}
 use Rattle.state.specs.declared.State.{State}
-use Rattle.line.specs.Lines.{blank_line, with_serial, with_state, tariff_changed, burst_changed, answered_by}
+use Rattle.line.specs.Lines.{Verdict, blank_line, with_serial, with_state, tariff_changed, burst_changed, answered_by}
 use Rattle.line.specs.declared.Line.{Line}
 use Rattle.line.specs.declared.Answered.{Answered}
-use Rattle.line.specs.declared.Verdict.{Verdict}
-use Rattle.line.specs.declared.Verdict.TheVariants.{Accepted, Refused}
 use Rattle.line.proofs.Described.{describe-is}
 use Rattle.group.specs.Groups.{rate_of, named, outside, or_else, first_refusal, rated_row}
 use Rattle.group.specs.Passes.{is_marked, asked_of, ruled_answer, marked_of, passed, step_of, place_in, line_at, with_passed, step_at, row_at, end_of, row_by}
@@ -51,24 +49,24 @@ module _ (l : Line) (P : ℕ) where
   rate-verdict = by ruled ∙ sym (ap (λ (a : Answered). a.verdict) rate-is)
     where
       by : (u : Ruling) → ruled_answer u ≡ (answered_by u l rated 0).verdict
-      by Allowed = refl
-      by (TurnedDown r) = refl
+      by (Ok tt) = refl
+      by (Err r) = refl
 
   -- where it accepts, the line after it has the rate, and its serial is one more
-  rate-line : (k : ℕ) → (rate_of l P).verdict ≡ Accepted k → (rate_of l P).line ≡ with_serial rated (one_more l.serial)
+  rate-line : (k : ℕ) → (rate_of l P).verdict ≡ Ok k → (rate_of l P).line ≡ with_serial rated (one_more l.serial)
   rate-line k e = ap (λ (a : Answered). a.line) rate-is ∙ by ruled (sym (ap (λ (a : Answered). a.verdict) rate-is) ∙ e)
     where
-      by : (u : Ruling) → (answered_by u l rated 0).verdict ≡ Accepted k → (answered_by u l rated 0).line ≡ with_serial rated (one_more l.serial)
-      by Allowed q = refl
-      by (TurnedDown r) q = absurd (let o : ◌≡◌ {A = ℕ} 0 1 = cc in omega arith)
+      by : (u : Ruling) → (answered_by u l rated 0).verdict ≡ Ok k → (answered_by u l rated 0).line ≡ with_serial rated (one_more l.serial)
+      by (Ok tt) q = refl
+      by (Err r) q = absurd (let o : ◌≡◌ {A = ℕ} 0 1 = cc in omega arith)
 
   -- and no burst pulse is cancelled
-  pub rate-cancels : (k : ℕ) → (rate_of l P).verdict ≡ Accepted k → (rate_of l P).verdict ≡ Accepted 0
+  pub rate-cancels : (k : ℕ) → (rate_of l P).verdict ≡ Ok k → (rate_of l P).verdict ≡ Ok 0
   rate-cancels k e = ap (λ (a : Answered). a.verdict) rate-is ∙ by ruled (sym (ap (λ (a : Answered). a.verdict) rate-is) ∙ e)
     where
-      by : (u : Ruling) → (answered_by u l rated 0).verdict ≡ Accepted k → (answered_by u l rated 0).verdict ≡ Accepted 0
-      by Allowed q = refl
-      by (TurnedDown r) q = absurd (let o : ◌≡◌ {A = ℕ} 0 1 = cc in omega arith)
+      by : (u : Ruling) → (answered_by u l rated 0).verdict ≡ Ok k → (answered_by u l rated 0).verdict ≡ Ok 0
+      by (Ok tt) q = refl
+      by (Err r) q = absurd (let o : ◌≡◌ {A = ℕ} 0 1 = cc in omega arith)
 
 -- ---- the row
 rated-other : (f : ℕ → Bool) (P : ℕ) (ls : List Line) (i : ℕ) → f i ≡ false → get_or (rated_row f P ls) i blank_line ≡ get_or ls i blank_line
@@ -92,9 +90,9 @@ rated-set f P (k ∷ ls) (suc p) l e =
     (rated-set (λ i. f (suc i)) P ls p (le_of_suc-le-suc l) e ∙ ap (λ (g : ℕ → Bool). rated_row g P ls) (λ x i. f (suc i) || sym (eqb-suc-suc i p) x)))
 
 -- ---- the list
-pub else_accepted : (u v : Verdict) (k : ℕ) → or_else u v ≡ Accepted k → ((j : ℕ) × (u ≡ Accepted j)) × (v ≡ Accepted k)
-else_accepted (Accepted j) v k e = ((j, refl), e)
-else_accepted (Refused r) v k e = absurd (let o : ◌≡◌ {A = ℕ} 0 1 = cc in omega arith)
+pub else_accepted : (u v : Verdict) (k : ℕ) → or_else u v ≡ Ok k → ((j : ℕ) × (u ≡ Ok j)) × (v ≡ Ok k)
+else_accepted (Ok j) v k e = ((j, refl), e)
+else_accepted (Err r) v k e = absurd (let o : ◌≡◌ {A = ℕ} 0 1 = cc in omega arith)
 
 -- a place that is named already is as if named once
 or_known : (f : ℕ → Bool) (p : ℕ) → f p ≡ true → (b : Bool) (i : ℕ) → (f i || b) ≡ (f i || (eqb i p || b))
@@ -155,13 +153,13 @@ module _ (ls : List Line) (most : length ls ≤ 64) where
     once : f p ≡ false → step_of s n p there.spacing there.serial there.state ≡ passed (marked_of s p) (one_more there.serial) (with_rate there.state s.interval)
     once e = fresh_step s n p there.spacing there.serial there.state (lt-ltb p n l) m.rates (m.marks p l ∙ e)
 
-    once-row : f p ≡ false → (j : ℕ) → (rate_of (line_at ls p) s.interval).verdict ≡ Accepted j → row_at n s row p ≡ rated_row (λ i. f i || eqb i p) s.interval ls
+    once-row : f p ≡ false → (j : ℕ) → (rate_of (line_at ls p) s.interval).verdict ≡ Ok j → row_at n s row p ≡ rated_row (λ i. f i || eqb i p) s.interval ls
     once-row e j acc =
         ap (λ (r : Passed). set row (place_in p n) (with_passed there r)) (once e)
         ∙ rw (lt-ltb p n l, rated-other f s.interval ls p e, ← rate-line (line_at ls p) s.interval j acc) (rated-set f s.interval ls p l e)
 
   pub rated_end : (ps : List ℕ) (s : Pass) (f : ℕ → Bool) → Marks s f → length ps ≤ s.limit → outside ps n ≡ false → (k : ℕ) →
-      first_refusal (λ p. (rate_of (line_at ls p) s.interval).verdict) ps ≡ Accepted k → Ends s (rated_row f s.interval ls) ps (λ i. f i || named ps i)
+      first_refusal (λ p. (rate_of (line_at ls p) s.interval).verdict) ps ≡ Ok k → Ends s (rated_row f s.interval ls) ps (λ i. f i || named ps i)
   unfolding named outside first_refusal
   rated_end [] s f m lim out k acc = subst (Ends s (rated_row f s.interval ls) []) (λ x i. sym (or-false (f i)) x) (refl, refl)
   rated_end (p ∷ ps) s f m lim out k acc =
@@ -176,7 +174,7 @@ module _ (ls : List Line) (most : length ls ≤ 64) where
       row₀ : List Line
       row₀ = rated_row f s.interval ls
 
-      by : (l : p < n) {j : ℕ} → (rate_of (line_at ls p) s.interval).verdict ≡ Accepted j → Ends s row₀ ps (λ i. f i || named ps i) →
+      by : (l : p < n) {j : ℕ} → (rate_of (line_at ls p) s.interval).verdict ≡ Ok j → Ends s row₀ ps (λ i. f i || named ps i) →
           Ends (marked_of s p) (rated_row (λ i. f i || eqb i p) s.interval ls) ps (λ i. (f i || eqb i p) || named ps i) →
           (b : Bool) → f p ≡ b → Ends s row₀ (p ∷ ps) (λ i. f i || (eqb i p || named ps i))
       by l acc same more true e =

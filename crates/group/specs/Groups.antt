@@ -1,14 +1,12 @@
 -- A rate command for a group of lines in a row: taken by all of them or by none.
-use Rattle.std.specs.Prelude.{Bool, false, cond, ◌||◌, List, [], ◌∷◌, ℕ, suc, leb, eqb, length, get_or}
+use Rattle.std.specs.Prelude.{Bool, false, cond, ◌||◌, List, [], ◌∷◌, ℕ, suc, leb, eqb, length, get_or, Ok, Err}
 use Rattle.phase_lists.specs.Lists.{no_lists}
 use Rattle.descriptor.specs.declared.TariffPart.TheVariants.{Rate}
 use Rattle.descriptor.specs.declared.BurstPart.TheVariants.{Keep}
 use Rattle.descriptor.specs.declared.Refusal.TheVariants.{Row, Place}
-use Rattle.line.specs.Lines.{describe_of, blank_line}
+use Rattle.line.specs.Lines.{Verdict, describe_of, blank_line}
 use Rattle.line.specs.declared.Line.{Line}
 use Rattle.line.specs.declared.Answered.{Answered}
-use Rattle.line.specs.declared.Verdict.{Verdict}
-use Rattle.line.specs.declared.Verdict.TheVariants.{Accepted, Refused}
 use Rattle.dispatcher.specs.Dispatch.{bad_row}
 
 -- a rate command, burst keep, on one line: its answer, and the line after it
@@ -29,12 +27,12 @@ outside (p ∷ ps) n = leb n p || outside ps n
 
 -- of two answers, the first that refuses
 abbrev pub or_else : Verdict → Verdict → Verdict
-or_else (Refused r) next = Refused r
-or_else (Accepted k) next = next
+or_else (Err r) next = Err r
+or_else (Ok k) next = next
 
 -- the refusal of the first place in list order that refuses, where f says what the line at each place would answer
 unfoldable pub first_refusal : (ℕ → Verdict) → List ℕ → Verdict
-first_refusal f [] = Accepted 0
+first_refusal f [] = Ok 0
 first_refusal f (p ∷ ps) = or_else (f p) (first_refusal f ps)
 
 -- ---- the group
@@ -42,8 +40,8 @@ first_refusal f (p ∷ ps) = or_else (f p) (first_refusal f ps)
 -- the answer: 14 for the row, then 15 for a place, and then the refusal of a line
 unfoldable pub verdict_of : List Line → List ℕ → ℕ → Verdict
 verdict_of ls ps P =
-    cond (bad_row (length ls)) (Refused Row)
-    (cond (outside ps (length ls)) (Refused Place)
+    cond (bad_row (length ls)) (Err Row)
+    (cond (outside ps (length ls)) (Err Place)
     (first_refusal (λ p. (rate_of (get_or ls p blank_line) P).verdict) ps))
 
 -- each line at whose place f holds takes the rate command once
@@ -52,8 +50,8 @@ rated_row f P [] = []
 rated_row f P (l ∷ ls) = cond (f 0) (rate_of l P).line l ∷ rated_row (λ i. f (suc i)) P ls
 
 abbrev pub if_accepted : {A : Type 0} → Verdict → A → A → A
-if_accepted (Accepted k) a b = a
-if_accepted (Refused r) a b = b
+if_accepted (Ok k) a b = a
+if_accepted (Err r) a b = b
 
 -- the row after it: a refused group leaves it as it was
 unfoldable pub row_of : List Line → List ℕ → ℕ → List Line

@@ -1,12 +1,10 @@
 -- A group's rate by two passes over its places: what the code computes.
-use Rattle.std.specs.Prelude.{Bool, true, false, cond, List, [], ◌∷◌, ◌⊎◌, ◌≡◌, ℕ, ◌*◌, ◌/◌, ◌%◌, ◌^◌, ◌<◌, ltb}
-use Rattle.std.specs.Prelude.{eqb, get_or, set}
+use Rattle.std.specs.Prelude.{Bool, true, false, cond, List, [], ◌∷◌, ◌⊎◌, ◌≡◌, ℕ, ◌*◌, ◌/◌, ◌%◌, ◌^◌, ◌<◌, ltb, eqb, get_or, set, Ok, Err}
 use Rattle.std.specs.Int.Bits.{bit_or}
 use Rattle.tariff.specs.Tariffs.{is_endless}
 use Rattle.phase_lists.specs.Tables.{no_table}
 use Rattle.descriptor.specs.Rulings.{descriptor_ruling}
-use Rattle.descriptor.specs.declared.Ruling.{Ruling}
-use Rattle.descriptor.specs.declared.Ruling.TheVariants.{Allowed, TurnedDown}
+use Rattle.descriptor.specs.Names.{Ruling}
 use Rattle.descriptor.specs.declared.TariffPart.TheVariants.{Rate}
 use Rattle.descriptor.specs.declared.BurstPart.TheVariants.{Keep}
 use Rattle.descriptor.specs.declared.Refusal.{Refusal}
@@ -15,10 +13,8 @@ use Rattle.burst.specs.Bursts.{is_running}
 use Rattle.state.specs.Rules.{one_more}
 use Rattle.state.specs.States.{with_rate}
 use Rattle.state.specs.declared.State.{State}
-use Rattle.line.specs.Lines.{blank_line, with_serial, with_state}
+use Rattle.line.specs.Lines.{Verdict, blank_line, with_serial, with_state}
 use Rattle.line.specs.declared.Line.{Line}
-use Rattle.line.specs.declared.Verdict.{Verdict}
-use Rattle.line.specs.declared.Verdict.TheVariants.{Accepted, Refused}
 use Rattle.dispatcher.specs.Dispatch.{bad_row}
 use Rattle.group.specs.Groups.{or_else, if_accepted}
 use Rattle.group.specs.declared.Pass.{Pass}
@@ -36,8 +32,8 @@ with_mark marks p = cond (ltb p 64) (bit_or marks (1 * 2 ^ p % 2 ^ 64)) marks
 
 -- what a line would answer to the rate command
 abbrev pub ruled_answer : Ruling → Verdict
-ruled_answer Allowed = Accepted 0
-ruled_answer (TurnedDown why) = Refused why
+ruled_answer (Ok tt) = Ok 0
+ruled_answer (Err why) = Err why
 
 abbrev pub asked_of : ℕ → State → ℕ → Verdict
 asked_of S s P = ruled_answer (descriptor_ruling S (is_endless s.tariff) (is_running s.burst) (Rate P) no_table Keep)
@@ -50,11 +46,11 @@ pass_of P limit rates v marks =
 
 -- the group is refused, whatever its lines answer: no place is left
 abbrev pub refused_of : Pass → Refusal → Pass
-refused_of s why = pass_of s.interval 0 s.rates (Refused why) s.marks
+refused_of s why = pass_of s.interval 0 s.rates (Err why) s.marks
 
 -- the first pass, over m places
 abbrev pub first_of : ℕ → ℕ → Pass
-first_of m P = pass_of P m false (Accepted 0) 0
+first_of m P = pass_of P m false (Ok 0) 0
 
 -- and in a row of n
 abbrev pub asking_of : ℕ → ℕ → ℕ → Pass

@@ -3,7 +3,7 @@ ghost use Rattle.std.specs.Prelude.{◌≡◌};
 ghost use Rattle.group.specs.Groups.{or_else};
 ghost use Rattle.group.specs.Passes.{asked_of};
 
-use descriptor::{BurstPart, Ruling, TariffPart};
+use descriptor::{BurstPart, TariffPart};
 use line::Verdict;
 use state::State;
 
@@ -19,8 +19,8 @@ pub(crate) fn asked(spacing: u32, state: State, interval: u32) -> Verdict
     let part = TariffPart::Rate { interval };
     let ruling = descriptor::ruling_on(spacing, endless, running, part, table, BurstPart::Keep);
     match ruling {
-        Ruling::Allowed => Verdict::Accepted(0),
-        Ruling::TurnedDown(why) => Verdict::Refused(why),
+        Ok(()) => Ok(0),
+        Err(why) => Err(why),
     }
 }
 
@@ -29,7 +29,7 @@ pub(crate) fn or_else(first: Verdict, next: Verdict) -> Verdict
     ensures { result ≡ or_else first next }
 {
     match first {
-        Verdict::Refused(_) => first,
-        Verdict::Accepted(_) => next,
+        Err(_) => first,
+        Ok(_) => next,
     }
 }

@@ -25,7 +25,7 @@ impl Pass {
             interval,
             limit: m,
             rates: false,
-            verdict: Verdict::Accepted(0),
+            verdict: Ok(0),
             marks: 0,
         };
         if (n == 0) | (64 < n) {
@@ -40,11 +40,11 @@ impl Pass {
     {
         let verdict = self.verdict;
         match verdict {
-            Verdict::Accepted(_) => Pass {
+            Ok(_) => Pass {
                 rates: true,
                 ..self
             },
-            Verdict::Refused(_) => Pass { limit: 0, ..self },
+            Err(_) => Pass { limit: 0, ..self },
         }
     }
 
@@ -54,7 +54,7 @@ impl Pass {
     {
         Pass {
             limit: 0,
-            verdict: Verdict::Refused(why),
+            verdict: Err(why),
             ..self
         }
     }

@@ -12,8 +12,8 @@ use Rattle.phase_lists.specs.Tables.{eight_of}
 use Rattle.phase_lists.proofs.PhaseTables.{sound-table}
 use Rattle.descriptor.specs.Refusals.{ruling, tariff_causes, burst_causes, descriptor_causes}
 use Rattle.descriptor.specs.Rulings.{table_for}
-use Rattle.descriptor.specs.declared.Ruling.{Ruling}
-use Rattle.descriptor.specs.declared.Ruling.TheVariants.{Allowed, TurnedDown}
+use Rattle.descriptor.specs.Names.{Ruling}
+use Rattle.std.specs.Prelude.{Ok, Err}
 use Rattle.descriptor.specs.declared.TariffPart.{TariffPart}
 use Rattle.descriptor.specs.declared.TariffPart.TheVariants.{None as NoTariff, Keep as KeepTariff, Rate, Em, Phased}
 use Rattle.descriptor.specs.declared.BurstPart.{BurstPart}
@@ -32,7 +32,7 @@ use Rattle.descriptor.proofs.Causes.{none_first, none_after}
 use Rattle.descriptor.proofs.Rulings.{descriptor-ruling-is}
 
 -- where the tariff part is allowed, the table holds the phases of its lists
-tariff-changed-is : (S : ℕ) (e b : Bool) (t : TariffPart) (ls : Lists) (l : Line) → ruling (tariff_causes S e b t ls) ≡ Allowed → tariff_changed t (table_for S t ls).carry.count (table_for S t ls).phases l ≡ tariff_changed t (length (phases_of ls)) (eight_of (phases_of ls)) l
+tariff-changed-is : (S : ℕ) (e b : Bool) (t : TariffPart) (ls : Lists) (l : Line) → ruling (tariff_causes S e b t ls) ≡ Ok tt → tariff_changed t (table_for S t ls).carry.count (table_for S t ls).phases l ≡ tariff_changed t (length (phases_of ls)) (eight_of (phases_of ls)) l
 unfolding tariff_changed
 tariff-changed-is S e b NoTariff ls l h = refl
 tariff-changed-is S e b KeepTariff ls l h = refl
@@ -43,9 +43,9 @@ tariff-changed-is S e b Phased ls l h =
     let t = sound-table S ls sound in rw (t.0, t.1)
 
 -- the changed line counts only where the descriptor is allowed
-same_answer : (r : Ruling) (l : Line) {x y : Line} (k : ℕ) → (r ≡ Allowed → x ≡ y) → answered_by r l x k ≡ answered_by r l y k
-same_answer Allowed l k h = rw (h refl)
-same_answer (TurnedDown r) l k h = refl
+same_answer : (r : Ruling) (l : Line) {x y : Line} (k : ℕ) → (r ≡ Ok tt → x ≡ y) → answered_by r l x k ≡ answered_by r l y k
+same_answer (Ok tt) l k h = rw (h refl)
+same_answer (Err r) l k h = refl
 
 -- a descriptor's answer from its table of phases is its answer from its lists
 pub describe-is : (l : Line) (t : TariffPart) (ls : Lists) (p : BurstPart) → described_by l t (table_for l.spacing t ls) p ≡ describe_of l t ls p
@@ -69,8 +69,8 @@ describe_nine l Phased ls p = cases (sound_lists ls) (λ t. ap (λ (ms : Lists).
 
 -- what the code makes of a reading
 abbrev taken : Line → Ruling → Reading → Answered
-taken l (TurnedDown r) q = refusing l r
-taken l Allowed q = described_by l q.tariff (table_for l.spacing q.tariff (lists_by (kept_of q.counts q.values))) q.burst
+taken l (Err r) q = refusing l r
+taken l (Ok tt) q = described_by l q.tariff (table_for l.spacing q.tariff (lists_by (kept_of q.counts q.values))) q.burst
 
 read_is : (l : Line) (m : Meant) (q : Reading) → Agrees m q → taken l q.ruling q ≡ read_answer l m
 read_is l unreadable q h = ap (λ (p : Reading). taken l p.ruling p) h

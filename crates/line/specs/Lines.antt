@@ -1,5 +1,5 @@
 -- What each command makes of a line and answers: what the code computes.
-use Rattle.std.specs.Prelude.{Bool, cond, List, ℕ, ◌+◌, max, length}
+use Rattle.std.specs.Prelude.{Bool, cond, List, ℕ, ◌+◌, max, length, Result, Ok, Err}
 use Rattle.tariff.specs.Tariffs.{em_of, phased_of, is_endless}
 use Rattle.tariff.specs.declared.Phase.{Phase}
 use Rattle.tariff.specs.declared.Tariff.TheVariants.{Idle}
@@ -9,8 +9,7 @@ use Rattle.phase_lists.specs.declared.PhaseTable.{PhaseTable}
 use Rattle.descriptor.specs.Refusals.{ruling, sound_configuration, descriptor_causes, period_causes, ticket_causes}
 use Rattle.descriptor.specs.Rulings.{descriptor_ruling}
 use Rattle.descriptor.specs.Cancelled.{cancelled_by}
-use Rattle.descriptor.specs.declared.Ruling.{Ruling}
-use Rattle.descriptor.specs.declared.Ruling.TheVariants.{Allowed, TurnedDown}
+use Rattle.descriptor.specs.Names.{Ruling}
 use Rattle.descriptor.specs.declared.TariffPart.{TariffPart}
 use Rattle.descriptor.specs.declared.TariffPart.TheVariants.{None as NoTariff, Keep as KeepTariff}
 use Rattle.descriptor.specs.declared.TariffPart.TheVariants.{Rate, Em, Phased}
@@ -29,11 +28,14 @@ use Rattle.state.specs.declared.State.{State}
 use Rattle.state.specs.declared.Moved.{Moved}
 use Rattle.ticking.specs.Moves.{moved_by}
 use Rattle.line.specs.declared.Line.{Line}
-use Rattle.line.specs.declared.Verdict.TheVariants.{Accepted, Refused}
 use Rattle.line.specs.declared.Answered.{Answered}
 use Rattle.line.specs.declared.Asked.{Asked}
 use Rattle.line.specs.declared.Audited.{Audited}
 use Rattle.line.specs.declared.Ticked.{Ticked}
+
+-- a call's answer: the burst pulses cancelled, or why it was turned down
+abbrev pub Verdict : Type 0
+Verdict = Result ℕ Refusal
 
 -- ---- making a line
 
@@ -68,8 +70,8 @@ blank_line = idle_line 0 4294967295 0 0
 -- where the configuration is refused, a blank line stands in the answer
 unfoldable pub make_of : ℕ → ℕ → ℕ → Answered
 make_of D G clock =
-    cond (sound_configuration D G) (record { line = fresh_line D (D + G) clock; verdict = Accepted 0 })
-    (record { line = blank_line; verdict = Refused Configuration })
+    cond (sound_configuration D G) (record { line = fresh_line D (D + G) clock; verdict = Ok 0 })
+    (record { line = blank_line; verdict = Err Configuration })
 
 -- ---- accepted and refused commands
 
@@ -86,16 +88,16 @@ with_serial l n =
 
 -- an accepted command adds 1 to the serial of the line that it leaves; k burst pulses are cancelled
 abbrev pub accepting : Line → ℕ → Answered
-accepting l k = record { line = with_serial l (one_more l.serial); verdict = Accepted k }
+accepting l k = record { line = with_serial l (one_more l.serial); verdict = Ok k }
 
 -- a refused one leaves the line as it was
 abbrev pub refusing : Line → Refusal → Answered
-refusing l r = record { line = l; verdict = Refused r }
+refusing l r = record { line = l; verdict = Err r }
 
 -- by what the table of refusals makes of it
 abbrev pub answered_by : Ruling → Line → Line → ℕ → Answered
-answered_by Allowed l changed k = accepting changed k
-answered_by (TurnedDown r) l changed k = refusing l r
+answered_by (Ok tt) l changed k = accepting changed k
+answered_by (Err r) l changed k = refusing l r
 
 -- ---- descriptors and hook events
 
@@ -171,8 +173,8 @@ hook_of l Stop = accepting (with_state l (with_burst (stopped l.state) no_burst)
 -- ---- asking and committing
 
 abbrev pub if_allowed : Ruling → Line → Answered → Answered
-if_allowed Allowed l given = given
-if_allowed (TurnedDown r) l given = refusing l r
+if_allowed (Ok tt) l given = given
+if_allowed (Err r) l given = refusing l r
 
 -- a commit is turned down for its ticket or for the serial, or gets what its descriptor is given without a ticket
 unfoldable pub commit_of : Line → ℕ → Answered → Answered

@@ -108,8 +108,8 @@ impl Line {
     {
         let ruling = self.ruling(tariff, table, burst);
         match ruling {
-            Ruling::TurnedDown(refusal) => self.refusing(refusal),
-            Ruling::Allowed => {
+            Err(refusal) => self.refusing(refusal),
+            Ok(()) => {
                 let s = self.state;
                 let old = s.burst;
                 let cancelled = descriptor::cancelled_by(burst, old.owed);

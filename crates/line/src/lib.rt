@@ -30,11 +30,7 @@ pub struct Line {
 }
 
 // A call's answer: the burst pulses cancelled, or why it was turned down.
-#[derive(Clone, Copy)]
-pub enum Verdict {
-    Accepted(u32),
-    Refused(Refusal),
-}
+pub type Verdict = Result<u32, Refusal>;
 
 #[derive(Clone, Copy)]
 pub struct Answered {
@@ -79,7 +75,7 @@ impl Line {
                 serial: state::one_more(self.serial),
                 ..self
             },
-            verdict: Verdict::Accepted(cancelled),
+            verdict: Ok(cancelled),
         }
     }
 
@@ -89,7 +85,7 @@ impl Line {
     {
         Answered {
             line: self,
-            verdict: Verdict::Refused(why),
+            verdict: Err(why),
         }
     }
 }

@@ -2,7 +2,7 @@
 ghost use Rattle.std.specs.Prelude.{◌≡◌};
 ghost use Rattle.line.specs.Lines.{idle_line, fresh_line, blank_line, make_of};
 
-use super::{Answered, Line, Verdict};
+use super::{Answered, Line};
 use burst::Burst;
 use descriptor::Refusal;
 use state::{Counters, State};
@@ -60,12 +60,12 @@ impl Line {
         if !descriptor::sound_configuration(pulse, gap) {
             return Answered {
                 line: Line::blank(),
-                verdict: Verdict::Refused(Refusal::Configuration),
+                verdict: Err(Refusal::Configuration),
             };
         }
         Answered {
             line: Line::fresh(pulse, pulse + gap, clock),
-            verdict: Verdict::Accepted(0),
+            verdict: Ok(0),
         }
     }
 }

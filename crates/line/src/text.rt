@@ -3,7 +3,6 @@ ghost use Rattle.std.specs.Prelude.{◌≡◌};
 ghost use Rattle.line.specs.Lines.{describe_text_of};
 
 use super::{Answered, Line};
-use descriptor::Ruling;
 
 impl Line {
     // It is refused where it does not read, and then where it makes no sense; else it is the descriptor that it reads as.
@@ -13,8 +12,8 @@ impl Line {
         let reading = sg::read(text);
         let ruling = reading.ruling;
         match ruling {
-            Ruling::TurnedDown(refusal) => self.refusing(refusal),
-            Ruling::Allowed => {
+            Err(refusal) => self.refusing(refusal),
+            Ok(()) => {
                 let tariff = reading.tariff;
                 let burst = reading.burst;
                 let phases = outcomes::phases_of(self.spacing, reading);

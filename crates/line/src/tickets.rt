@@ -4,7 +4,7 @@ ghost use Rattle.phase_lists.specs.Lists.{lists_of};
 ghost use Rattle.line.specs.Lines.{describe_of, describe_text_of, ask_of, commit_of};
 
 use super::{Answered, Asked, Line};
-use descriptor::{BurstPart, Ruling, TariffPart};
+use descriptor::{BurstPart, TariffPart};
 
 impl Line {
     // A commit of what would be answered so without a ticket. Where it is turned down, the line is as it was.
@@ -14,8 +14,8 @@ impl Line {
     {
         let ruling = descriptor::ticket_ruling(ticket, self.serial);
         match ruling {
-            Ruling::TurnedDown(refusal) => self.refusing(refusal),
-            Ruling::Allowed => given,
+            Err(refusal) => self.refusing(refusal),
+            Ok(()) => given,
         }
     }
 

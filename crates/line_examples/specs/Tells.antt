@@ -1,10 +1,9 @@
 -- What a tick and a verdict tell, as tests.
-use Rattle.std.specs.Prelude.{Bool, true, false, eqb, ℕ}
+use Rattle.std.specs.Prelude.{Bool, true, false, eqb, ℕ, Ok, Err}
 use Rattle.answers.specs.declared.Front.{Front}
 use Rattle.answers.specs.declared.Front.TheVariants.{None, Tariff, Burst}
 use Rattle.descriptor.specs.Refusals.{refusal_number}
-use Rattle.line.specs.declared.Verdict.{Verdict}
-use Rattle.line.specs.declared.Verdict.TheVariants.{Accepted, Refused}
+use Rattle.line.specs.Lines.{Verdict}
 
 -- a tariff pulse begins
 abbrev pub is_tariff : Front → Bool
@@ -14,10 +13,10 @@ is_tariff Burst = false
 
 -- accepted, with so many burst pulses cancelled
 abbrev pub accepts : ℕ → Verdict → Bool
-accepts k (Accepted n) = eqb n k
-accepts k (Refused r) = false
+accepts k (Ok n) = eqb n k
+accepts k (Err r) = false
 
 -- refused with this number
 abbrev pub refuses : ℕ → Verdict → Bool
-refuses n (Accepted k) = false
-refuses n (Refused r) = eqb (refusal_number r) n
+refuses n (Ok k) = false
+refuses n (Err r) = eqb (refusal_number r) n

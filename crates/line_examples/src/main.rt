@@ -25,8 +25,8 @@ fn accepted(cancelled: u32, verdict: Verdict) -> bool
     ensures { result ≡ accepts cancelled verdict }
 {
     match verdict {
-        Verdict::Accepted(n) => n == cancelled,
-        Verdict::Refused(_) => false,
+        Ok(n) => n == cancelled,
+        Err(_) => false,
     }
 }
 
@@ -34,8 +34,8 @@ fn refused(number: u32, verdict: Verdict) -> bool
     ensures { result ≡ refuses number verdict }
 {
     match verdict {
-        Verdict::Accepted(_) => false,
-        Verdict::Refused(why) => why.number() == number,
+        Ok(_) => false,
+        Err(why) => why.number() == number,
     }
 }
 

@@ -1,6 +1,5 @@
 -- The lines in a buffer: where the next one ends, and what is left past it.
-use Rattle.std.specs.Prelude.{Bool, true, false, cond, not, ◌&&◌, ◌||◌, List, [], ◌∷◌}
-use Rattle.std.specs.Prelude.{ℕ, suc, ◌+◌, ◌-◌, min, ltb, eqb, length, take, drop}
+use Rattle.std.specs.Prelude.{Bool, true, false, cond, not, ◌&&◌, ◌||◌, List, [], ◌∷◌, ℕ, suc, ◌+◌, ◌-◌, min, ltb, eqb, length, take, drop}
 use Rattle.lines.specs.declared.Input.{Input}
 use Rattle.lines.specs.declared.Span.{Span}
 

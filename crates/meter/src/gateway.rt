@@ -19,15 +19,15 @@ pub struct Gateway {
 
 fn answer_of(verdict: Verdict) -> Answer {
     match verdict {
-        Verdict::Accepted(cancelled) => Answer::Ok(cancelled),
-        Verdict::Refused(why) => Answer::No(why.number()),
+        Ok(cancelled) => Answer::Ok(cancelled),
+        Err(why) => Answer::No(why.number()),
     }
 }
 
 fn is_accepted(verdict: Verdict) -> bool {
     match verdict {
-        Verdict::Accepted(_) => true,
-        Verdict::Refused(_) => false,
+        Ok(_) => true,
+        Err(_) => false,
     }
 }
 

@@ -10,7 +10,7 @@ use types.Logic.{Logic}
 use contract.Monad.{fact_mono}
 use contract.Running.{Running}
 use Rattle.line.specs.declared.Line.{Line}
-use Rattle.line.specs.declared.Verdict.{Verdict}
+use Rattle.line.specs.Lines.{Verdict}
 use Rattle.dispatcher.specs.Dispatch.{row_of, dispatch_of}
 use Rattle.dispatcher.specs.declared.Dispatcher.{Dispatcher}
 use Rattle.dispatcher.specs.declared.Dispatched.{Dispatched}

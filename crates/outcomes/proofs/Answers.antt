@@ -3,7 +3,7 @@ use mathlib.Core.Bool.{Bool, true, false, not, ◌||◌}
 use mathlib.Core.Path.{◌≡◌}
 use borrow.Author.Tests.{not-false, not-true}
 use Rattle.descriptor.specs.declared.Refusal.TheVariants.{Grammar, Content}
-use Rattle.descriptor.specs.declared.Ruling.TheVariants.{Allowed}
+use Rattle.std.specs.Prelude.{Ok}
 use Rattle.grammar.specs.Meaning.{is_incomplete, tariff_by, burst_by}
 use Rattle.notes.specs.Noting.{Notes, has_in}
 use Rattle.outcomes.specs.Outcomes.{kept_of, refused_as, outcome_of, answer_of}
@@ -20,7 +20,7 @@ module _ (w : Bool) (n : Notes) where
 
     pub sound : n.bad || is_incomplete (has_in n.counts) ≡ false
         → record {
-          ruling = Allowed;
+          ruling = (Ok tt);
           tariff = tariff_by (has_in n.counts) (kept_of n.counts n.values);
           burst = burst_by (has_in n.counts) (kept_of n.counts n.values);
           counts = n.counts;

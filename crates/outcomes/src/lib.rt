@@ -27,7 +27,7 @@ pub fn refused(why: Refusal) -> Reading
     ensures { result ≡ refused_as why }
 {
     Reading {
-        ruling: Ruling::TurnedDown(why),
+        ruling: Err(why),
         tariff: TariffPart::None,
         burst: BurstPart::None,
         counts: [0; 18],
@@ -124,7 +124,7 @@ pub fn answer(whole: bool, marks: Marks, counts: [usize; 18], values: [u32; 162]
     let tariff = tariff(&counts, &values);
     let burst = burst(&counts, &values);
     Reading {
-        ruling: Ruling::Allowed,
+        ruling: Ok(()),
         tariff,
         burst,
         counts,

@@ -7,7 +7,7 @@ use mathlib.Core.Path.{◌≡◌, refl, ap, ◌∙◌}
 use lib.ListN.{length, get_or, take, drop}
 use Rattle.phase_lists.specs.Lists.{first_places}
 use Rattle.descriptor.specs.declared.Refusal.TheVariants.{Grammar, Content}
-use Rattle.descriptor.specs.declared.Ruling.TheVariants.{Allowed}
+use Rattle.std.specs.Prelude.{Ok}
 use Rattle.grammar.specs.Grammar.{Row}
 use Rattle.grammar.specs.Reader.{Found, found, missing, text_of}
 use Rattle.grammar.specs.Meaning.{Given, has, values_of, any_faulty, is_incomplete, is_senseless, first_or, tariff_by, burst_by, lists_by}
@@ -25,7 +25,7 @@ abbrev pub Agrees : Meant → Reading → Type 0
 Agrees unreadable r = r ≡ refused_as Grammar
 Agrees senseless r = r ≡ refused_as Content
 Agrees (descriptor t ls b) r =
-    (r.ruling ≡ Allowed) × (r.tariff ≡ t) × (r.burst ≡ b) × (lists_by (kept_of r.counts r.values) ≡ first_places ls 9)
+    (r.ruling ≡ Ok tt) × (r.tariff ≡ t) × (r.burst ≡ b) × (lists_by (kept_of r.counts r.values) ≡ first_places ls 9)
 
 first-kept : (d : ℕ) (l : List ℕ) → first_or d (take 9 l) ≡ first_or d l
 first-kept d [] = refl
@@ -70,7 +70,7 @@ agrees-told gs n h = rw h.told-bad (faulty (any_faulty gs) refl)
     answer : Reading
     answer =
         record {
-          ruling = Allowed;
+          ruling = (Ok tt);
           tariff = tariff_by (has_in n.counts) (kept_of n.counts n.values);
           burst = burst_by (has_in n.counts) (kept_of n.counts n.values);
           counts = n.counts;

@@ -1,6 +1,6 @@
 // What a text reads as, in words: the number of a refusal, or the tariff part and the burst part.
 use super::output::{put_number, put_text};
-use descriptor::{BurstPart, Ruling, TariffPart};
+use descriptor::{BurstPart, TariffPart};
 use outcomes::Reading;
 use outlet::Outlet;
 use std::io;
@@ -134,8 +134,8 @@ fn put_parts(out: &mut Outlet<Stdout>, reading: Reading) -> io::Result<()> {
 fn put_outcome(out: &mut Outlet<Stdout>, reading: Reading) -> io::Result<()> {
     let ruling = reading.ruling;
     match ruling {
-        Ruling::Allowed => put_parts(out, reading),
-        Ruling::TurnedDown(why) => put_number(out, why.number()),
+        Ok(()) => put_parts(out, reading),
+        Err(why) => put_number(out, why.number()),
     }
 }
 
