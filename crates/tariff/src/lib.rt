@@ -8,7 +8,7 @@ mod setting;
 pub use phases::phase_at;
 
 // A phase of a phased tariff, as a descriptor gives it.
-#[derive(Clone, Copy)]
+#[derive(Clone, Copy, PartialEq, Eq, Debug, Default)]
 pub struct Phase {
     pub pri: u32,
     pub pcx: u32,
@@ -20,7 +20,7 @@ pub struct Phase {
 }
 
 // What a tariff has at a tick.
-#[derive(Clone, Copy)]
+#[derive(Clone, Copy, PartialEq, Eq, Debug)]
 pub enum Slot {
     None,
     Empty,
@@ -28,8 +28,9 @@ pub enum Slot {
 }
 
 // Where a tariff stands. The ticks to its next slot, or to its completion where it is ending, are kept beside it.
-#[derive(Clone, Copy)]
+#[derive(Clone, Copy, PartialEq, Eq, Debug, Default)]
 pub enum Tariff {
+    #[default]
     Idle,
     // An em with C = 0.
     Endless {
