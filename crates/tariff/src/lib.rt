@@ -19,10 +19,9 @@ pub struct Phase {
     pub pd: u32,
 }
 
-// What a tariff has at a tick.
+// A slot of a tariff at a tick.
 #[derive(Clone, Copy, PartialEq, Eq, Debug)]
 pub enum Slot {
-    None,
     Empty,
     Pulse,
 }
