@@ -6,7 +6,8 @@ ghost use Rattle.burst.specs.Bursts.{no_burst, start_of, is_running, held_more, 
 
 // The pulses owed, the least distance of its fronts, and the ticks since its last front, held at that distance. Where the
 // distance is 0 none runs.
-#[derive(Clone, Copy)]
+// Stays: an Option would give each line record a word more, and its ages are bare comparisons, with no case of none.
+#[derive(Clone, Copy, PartialEq, Eq, Debug, Default)]
 pub struct Burst {
     pub owed: u32,
     pub distance: u32,
@@ -14,7 +15,7 @@ pub struct Burst {
 }
 
 // A burst one tick on, and whether it is complete.
-#[derive(Clone, Copy)]
+#[derive(Clone, Copy, PartialEq, Eq, Debug)]
 pub struct Aged {
     pub burst: Burst,
     pub complete: bool,
@@ -24,14 +25,7 @@ pub struct Aged {
 pub fn held_more(n: u32, k: u32) -> u32
     ensures { result ≡ held_more n k }
 {
-    if k < n { k + 1 } else { n }
-}
-
-// One pulse less, if there is one.
-fn one_less(n: u32) -> u32
-    ensures { result ≡ n - 1 }
-{
-    if n == 0 { 0 } else { n - 1 }
+    k.saturating_add(1).min(n)
 }
 
 impl Burst {
@@ -39,11 +33,7 @@ impl Burst {
     pub fn none() -> Burst
         ensures { result ≡ no_burst }
     {
-        Burst {
-            owed: 0,
-            distance: 0,
-            since: 0,
-        }
+        Burst::default()
     }
 
     // A burst of so many pulses, whose distance has passed.
@@ -78,8 +68,7 @@ impl Burst {
     pub fn completes(self, pulse: u32) -> bool
         ensures { result ≡ completes_of pulse self }
     {
-        let now = held_more(self.distance, self.since);
-        (0 < self.distance) & ((self.owed == 0) & (now == pulse))
+        self.is_running() && self.owed == 0 && held_more(self.distance, self.since) == pulse
     }
 
     // One tick on.
@@ -104,7 +93,7 @@ impl Burst {
     pub fn is_due(self) -> bool
         ensures { result ≡ is_due self }
     {
-        (0 < self.owed) & (self.distance <= self.since)
+        0 < self.owed && self.distance <= self.since
     }
 
     // Whether nothing of it happens one tick on, where `passed` says whether S ticks will have passed since the last front.
@@ -113,10 +102,10 @@ impl Burst {
         ensures { result ≡ burst_quiet pulse passed self }
     {
         if self.is_running() {
-            let older = self.older();
-            return !self.completes(pulse) & !(older.is_due() & passed);
+            !self.completes(pulse) && !(self.older().is_due() && passed)
+        } else {
+            self.owed == 0
         }
-        self.owed == 0
     }
 
     // After a front of it.
@@ -124,9 +113,9 @@ impl Burst {
         ensures { result ≡ begun_of self }
     {
         Burst {
-            owed: one_less(self.owed),
-            distance: self.distance,
+            owed: self.owed.saturating_sub(1),
             since: 0,
+            ..self
         }
     }
 }

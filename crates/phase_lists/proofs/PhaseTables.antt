@@ -15,7 +15,8 @@ use Rattle.tariff.specs.declared.Phase.{Phase}
 use Rattle.rules.specs.Carried.{carried, met_by}
 use Rattle.rules.proofs.OnePass.{carried-more, carried-count}
 use Rattle.phase_lists.specs.Lists.{Lists, phase_of, first_phases, phases_of, one_length, sound_lists}
-use Rattle.phase_lists.specs.Tables.{eight_of, phase_count, table_of}
+use Rattle.phase_lists.specs.Tables.{eight_of, no_table, phase_count, table_of}
+use Rattle.phase_lists.specs.declared.PhaseTable.{PhaseTable}
 
 pub phases-length : (ls : Lists) (n : ℕ) → length (first_phases ls n) ≡ n
 unfolding first_phases
@@ -42,21 +43,37 @@ eight-more ps p n size room =
     let after : 8 - length (ps ++ (p ∷ [])) ≡ 7 - n = simp length-append (omega arith) in
     rw (here, after, set_at ps no_phase (replicate (7 - n) no_phase) p n size, append_assoc)
 
--- the phase at place i, met after the first i
-pub met_next : (S : ℕ) (ls : Lists) (i : ℕ) → carried S (first_phases ls (i + 1)) ≡ met_by S (carried S (first_phases ls i)) (phase_of ls i)
-unfolding first_phases
-met_next S ls i = rw (add-one i) (carried-more S (first_phases ls i) (phase_of ls i))
+-- what the first n phases leave to carry, and the first eight of them
+abbrev pub first_table : ℕ → Lists → ℕ → PhaseTable
+first_table S ls n = record { carry = carried S (first_phases ls n); phases = eight_of (first_phases ls (min n 8)) }
 
--- the phase at place i, stored after the first i where it is one of eight
-pub stored_next : (ls : Lists) (i : ℕ) → i < 8 → set (eight_of (first_phases ls (min i 8))) i (phase_of ls i) ≡ eight_of (first_phases ls (min (i + 1) 8))
+pub no-phases : (S : ℕ) (ls : Lists) → no_table ≡ first_table S ls 0
+unfolding first_phases carried
+no-phases S ls = refl
+
+-- one phase more is met
+met_next : (S : ℕ) (ls : Lists) (i : ℕ) → met_by S (carried S (first_phases ls i)) (phase_of ls i) ≡ carried S (first_phases ls (i + 1))
 unfolding first_phases
-stored_next ls i room =
+met_next S ls i = rw (add-one i, carried-more S (first_phases ls i) (phase_of ls i))
+
+-- and is stored where it is one of eight
+pub stored_next : (S : ℕ) (ls : Lists) (i : ℕ) → i < 8
+    → record {
+        carry = met_by S (carried S (first_phases ls i)) (phase_of ls i);
+        phases = set (eight_of (first_phases ls (min i 8))) i (phase_of ls i);
+      } ≡ first_table S ls (i + 1)
+unfolding first_phases
+stored_next S ls i room =
     let here : min i 8 ≡ i = omega arith in
     let after : min (i + 1) 8 ≡ suc i = omega arith in
-    rw (here, after) (eight-more (first_phases ls i) (phase_of ls i) i (phases-length ls i) room)
+    rw (met_next S ls i, here, after, eight-more (first_phases ls i) (phase_of ls i) i (phases-length ls i) room)
 
-pub stored_past : (ls : Lists) (i : ℕ) → 8 ≤ i → eight_of (first_phases ls (min i 8)) ≡ eight_of (first_phases ls (min (i + 1) 8))
-stored_past ls i past = let same : min i 8 ≡ min (i + 1) 8 = omega arith in rw same
+pub stored_past : (S : ℕ) (ls : Lists) (i : ℕ) → 8 ≤ i
+    → record {
+        carry = met_by S (carried S (first_phases ls i)) (phase_of ls i);
+        phases = eight_of (first_phases ls (min i 8));
+      } ≡ first_table S ls (i + 1)
+stored_past S ls i past = let same : min i 8 ≡ min (i + 1) 8 = omega arith in rw (met_next S ls i, same)
 
 -- sound lists: all their phases are counted and stored
 pub sound-table : (S : ℕ) (ls : Lists) → sound_lists ls ≡ true

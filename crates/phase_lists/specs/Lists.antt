@@ -2,6 +2,7 @@
 use Rattle.std.specs.Prelude.{Bool, ◌&&◌, List, [], ◌∷◌, ◌++◌, ℕ, zero, suc, eqb, length, get_or, take}
 use Rattle.tariff.specs.Ranges.{within}
 use Rattle.tariff.specs.declared.Phase.{Phase}
+use Rattle.phase_lists.specs.declared.PhaseLists.{PhaseLists}
 
 -- looked at only where the tariff part is phased
 pub record Lists : Type 0 where
@@ -37,6 +38,9 @@ phases_of ls = first_phases ls (length ls.pri)
 abbrev pub lists_of : List ℕ → List ℕ → List ℕ → List ℕ → List ℕ → List ℕ → List ℕ → Lists
 lists_of pri pcx repx pcn repn ci pd =
     record { pri = pri; pcx = pcx; repx = repx; pcn = pcn; repn = repn; ci = ci; pd = pd }
+
+abbrev pub lists_in : PhaseLists → Lists
+lists_in ls = lists_of ls.pri.now ls.pcx.now ls.repx.now ls.pcn.now ls.repn.now ls.ci.now ls.pd.now
 
 abbrev pub no_lists : Lists
 no_lists = record { pri = []; pcx = []; repx = []; pcn = []; repn = []; ci = []; pd = [] }

@@ -9,7 +9,7 @@ mod carrying;
 use tariff::Phase;
 
 // What a list of phases leaves to carry to the next phase.
-#[derive(Clone, Copy)]
+#[derive(Clone, Copy, PartialEq, Eq, Debug)]
 pub struct Carry {
     // How many phases there were, held at 9: a list has at most 8.
     pub count: u32,
@@ -24,32 +24,29 @@ pub struct Carry {
 pub fn sound_em(spacing: u32, count: u32, period: u32) -> bool
     ensures { result ≡ sound_em spacing count period }
 {
-    let small = (count <= 65535) & (period <= 86400000);
-    let least = 2 * spacing as u64;
-    if count == 0 {
-        small & (least <= period as u64)
-    } else {
-        small & (least <= period as u64 / count as u64)
-    }
+    let distance = if count == 0 { period } else { period / count };
+    count <= 65_535 && period <= 86_400_000 && 2 * u64::from(spacing) <= u64::from(distance)
 }
 
 // Whether the numbers of a phase are within their ends.
 fn sound_numbers(p: Phase, spacing: u32) -> bool
     ensures { result ≡ sound_numbers spacing p }
 {
-    let entries = p.repx as u64 + p.repn as u64;
-    let distance = (2 * spacing as u64 <= p.pri as u64) & (p.pri <= 86400000);
-    let map = (1 <= entries) & (entries <= 100);
-    let seconds = ((1 <= p.ci) & (p.ci <= 86400)) & (p.pd <= 86400000);
-    distance & ((p.pcn <= p.pcx) & ((p.pcx <= 65535) & (map & seconds)))
+    let entries = u64::from(p.repx) + u64::from(p.repn);
+    2 * u64::from(spacing) <= u64::from(p.pri)
+        && p.pri <= 86_400_000
+        && p.pcn <= p.pcx
+        && p.pcx <= 65_535
+        && (1..=100).contains(&entries)
+        && (1..=86_400).contains(&p.ci)
+        && p.pd <= 86_400_000
 }
 
 // Whether so many seconds have room for the slots of an interval of pcx pulses, or for its empty slot.
 fn fits_in(p: Phase, seconds: u32) -> bool
     ensures { result ≡ fits_in p seconds }
 {
-    let room = 1000 * seconds as u64;
-    (p.pri as u64 <= room) & (p.pcx as u64 * p.pri as u64 <= room)
+    u64::from(p.pcx.max(1)) * u64::from(p.pri) <= 1000 * u64::from(seconds)
 }
 
 // Whether a phase by itself keeps its rules.
@@ -57,10 +54,9 @@ fn fits_in(p: Phase, seconds: u32) -> bool
 pub(crate) fn is_sound(p: Phase, spacing: u32) -> bool
     ensures { result ≡ sound_phase spacing p }
 {
-    if sound_numbers(p, spacing) {
-        let rest = p.pd % p.ci;
-        fits_in(p, p.ci) & ((rest == 0) | fits_in(p, rest))
-    } else {
-        false
+    if !sound_numbers(p, spacing) {
+        return false;
     }
+    let rest = p.pd % p.ci;
+    fits_in(p, p.ci) && (rest == 0 || fits_in(p, rest))
 }

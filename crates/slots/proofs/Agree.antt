@@ -1,4 +1,5 @@
 -- A running tariff by its origin and the tariff that the line keeps say the same of every tick to come.
+use Rattle.std.specs.Prelude.{None, Option, Some}
 use mathlib.Core.Path.{◌≡◌}
 use mathlib.Core.Bool.{false}
 use mathlib.Core.List.{List}
@@ -6,7 +7,7 @@ use Prim.Native.Nat.{ℕ, ◌+◌, ◌-◌, ◌*◌, ◌≤◌}
 use Rattle.tariff.specs.Tariffs.{is_endless}
 use Rattle.tariff.specs.declared.Phase.{Phase}
 use Rattle.tariff.specs.declared.Slot.{Slot}
-use Rattle.tariff.specs.declared.Slot.TheVariants.{None, Empty, Pulse}
+use Rattle.tariff.specs.declared.Slot.TheVariants.{Empty, Pulse}
 use Rattle.tariff.specs.declared.Tariff.{Tariff}
 use Rattle.tariff.specs.declared.Tariff.TheVariants.{Endless}
 use Rattle.slots.specs.Slots.{Running, endless, slot_at, completes_at, first_past, runs_endless}
@@ -23,7 +24,7 @@ pub record Agree (D : ℕ) (a : List Phase) (n : ℕ) (r : Running) (t : Tariff)
   pub rate : SameRate i r t w
 
 -- what one tick does to the ticks to the next slot, v, which is 0 where none is left
-pub data Next (S v v' : ℕ) : Slot → Type 0 where
+pub data Next (S v v' : ℕ) : Option Slot → Type 0 where
   waits : (v ≡ 1 → ⊥) → v' ≡ v - 1 → Next S v v' None
-  empty : v ≡ 1 → ((v' ≡ 0 → ⊥) → 2 * S ≤ v') → Next S v v' Empty
-  pulse : v ≡ 1 → ((v' ≡ 0 → ⊥) → 2 * S ≤ v') → Next S v v' Pulse
+  empty : v ≡ 1 → ((v' ≡ 0 → ⊥) → 2 * S ≤ v') → Next S v v' (Some Empty)
+  pulse : v ≡ 1 → ((v' ≡ 0 → ⊥) → 2 * S ≤ v') → Next S v v' (Some Pulse)

@@ -1,4 +1,5 @@
 -- What a tariff has ahead, by where it stands: its slots and its completion, y ticks from now.
+use Rattle.std.specs.Prelude.{None, Option}
 use mathlib.Core.Path.{◌≡◌}
 use mathlib.Core.Bool.{Bool, true, false, cond, not, ◌&&◌, ◌||◌}
 use mathlib.Core.List.{List}
@@ -10,7 +11,6 @@ use Rattle.tariff.specs.Tariffs.{phase_at, slot_left}
 use Rattle.steps.specs.Steps.{pulses_at}
 use Rattle.tariff.specs.declared.Phase.{Phase}
 use Rattle.tariff.specs.declared.Slot.{Slot}
-use Rattle.tariff.specs.declared.Slot.TheVariants.{None}
 use Rattle.tariff.specs.declared.Tariff.{Tariff}
 use Rattle.tariff.specs.declared.Tariff.TheVariants.{Idle, Endless, Counted, Phased, Ending}
 use Rattle.slots.specs.Slots.{endless_slot, counted_slot, interval_slot, interval_pulses, phased_slot, never_end, seconds}
@@ -22,16 +22,16 @@ abbrev pub next_of : Tariff → ℕ → ℕ
 next_of t w = cond (slot_left t) w 0
 
 -- x ticks after the start of a charge interval with map entry e, while its phase lasts
-unfoldable pub phase_from : Phase → ℕ → ℕ → Slot
+unfoldable pub phase_from : Phase → ℕ → ℕ → Option Slot
 phase_from p e x = interval_slot (interval_pulses p (e + x / (1000 * p.ci))) p.pri (x % (1000 * p.ci))
 
 -- the same where the phase has l seconds left from that start on, 0 if it is endless, and the phases ps follow
-unfoldable pub phases_from : Phase → List Phase → ℕ → ℕ → ℕ → Slot
+unfoldable pub phases_from : Phase → List Phase → ℕ → ℕ → ℕ → Option Slot
 phases_from p ps e l x = cond (eqb l 0 || ltb x (1000 * l)) (phase_from p e x) (phased_slot ps (x - 1000 * l))
 
 module _ (a : List Phase) (n : ℕ) where
   -- the slots of a tariff, in ticks from its next slot
-  unfoldable pub slots_of : Tariff → ℕ → Slot
+  unfoldable pub slots_of : Tariff → ℕ → Option Slot
   slots_of Idle x = None
   slots_of (Endless P) x = endless_slot P x
   slots_of (Counted C P k) x = counted_slot C P (x + k * P / C)
@@ -39,7 +39,7 @@ module _ (a : List Phase) (n : ℕ) where
   slots_of Ending x = None
 
   -- the slot y ticks from now
-  abbrev pub ahead : Tariff → ℕ → ℕ → Slot
+  abbrev pub ahead : Tariff → ℕ → ℕ → Option Slot
   ahead t w y = from (next_of t w) (slots_of t) y
 
   -- the tariff completes y ticks from now

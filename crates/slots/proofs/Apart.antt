@@ -1,4 +1,5 @@
 -- The slots ahead of a good tariff are at least 2S apart.
+use Rattle.std.specs.Prelude.{None, Option}
 use mathlib.Core.Path.{◌≡◌, refl, sym, ◌∙◌}
 use mathlib.Core.List.{List}
 use mathlib.Core.Logic.{◌≢◌}
@@ -7,7 +8,6 @@ use native.Mathlib.Omega.{arith}
 use Rattle.steps.specs.Steps.{step_of}
 use Rattle.tariff.specs.declared.Phase.{Phase}
 use Rattle.tariff.specs.declared.Slot.{Slot}
-use Rattle.tariff.specs.declared.Slot.TheVariants.{None}
 use Rattle.tariff.specs.declared.Tariff.{Tariff}
 use Rattle.slots.specs.Slots.{from}
 use Rattle.slots.proofs.From.{from_past, from-begun}
@@ -17,7 +17,7 @@ use Rattle.slots.proofs.Step.{none_left, past-due}
 use Rattle.slots.proofs.Tick.{step-slot, step-slots, good-step, next-step}
 
 -- after a slot the next one is 2S away or more
-next-far : {S v v' : ℕ} {s : Slot} → Next S v v' s → s ≢ None → v' ≢ 0 → 2 * S ≤ v'
+next-far : {S v v' : ℕ} {s : Option Slot} → Next S v v' s → s ≢ None → v' ≢ 0 → 2 * S ≤ v'
 next-far (waits p q) some = absurd (some refl)
 next-far (empty p far) some = far
 next-far (pulse p far) some = far
@@ -57,7 +57,7 @@ module _ (S : ℕ) (a : List Phase) (n : ℕ) (spaced : 1 ≤ S) where
       )
 
   -- and so are slots that begin at f, where they are those of a good tariff
-  pub from-apart : (g : ℕ → Slot) (s : Tariff) → Good S a n s 1 → ((x : ℕ) → slots_of a n s x ≡ g x)
+  pub from-apart : (g : ℕ → Option Slot) (s : Tariff) → Good S a n s 1 → ((x : ℕ) → slots_of a n s x ≡ g x)
       → (f t u : ℕ) → from f g t ≢ None → from f g u ≢ None → t < u → t + 2 * S ≤ u
   from-apart g s good same f t u first second l =
       let begun = from-begun g f t first in

@@ -1,4 +1,5 @@
 -- An em with C > 0: slot k at k × P/C rounded down; the slots climb by at least P/C, and none lies between two neighbours.
+use Rattle.std.specs.Prelude.{None, Some}
 use mathlib.Core.Path.{◌≡◌, refl, sym, ◌∙◌, ap}
 use mathlib.Core.Bool.{false}
 use mathlib.Core.List.{List}
@@ -12,7 +13,7 @@ use borrow.Author.Tests.{eq-eqb, ne_eqb, ltb-true, ltb-false}
 use lib.Dec.{ltb, eqb}
 use Rattle.steps.specs.Steps.{distance_after, after_counted}
 use Rattle.tariff.specs.declared.Phase.{Phase}
-use Rattle.tariff.specs.declared.Slot.TheVariants.{None, Pulse}
+use Rattle.tariff.specs.declared.Slot.TheVariants.{Pulse}
 use Rattle.tariff.specs.declared.Tariff.TheVariants.{Counted}
 use Rattle.steps.specs.declared.Waiting.{Waiting}
 use Rattle.slots.specs.Slots.{counted_slot}
@@ -57,7 +58,7 @@ counted_none C P k x few low high =
         (λ past. omega (arith, high (omega arith), slot_mono C P (k + 1) m (omega arith) (omega arith)))
 
 -- slot k is a pulse
-pub counted-pulse : (C P k : ℕ) → k < C → counted_slot C P (k * P / C) ≡ Pulse
+pub counted-pulse : (C P k : ℕ) → k < C → counted_slot C P (k * P / C) ≡ (Some Pulse)
 unfolding counted_slot
 counted-pulse C P k few = rw (any_some C (λ m. eqb (m * P / C) (k * P / C)) k few (eq-eqb (k * P / C) (k * P / C) refl))
 

@@ -1,4 +1,5 @@
 -- An em with C = 0: its slots are P apart, and the first slot past a tick moves with the tick.
+use Rattle.std.specs.Prelude.{Some}
 use mathlib.Core.Path.{◌≡◌, sym, ◌∙◌}
 use Prim.Native.Nat.{ℕ, suc, ◌+◌, ◌-◌, ◌*◌, ◌/◌, ◌≤◌, ◌<◌}
 use native.Mathlib.Nat.{zero-mod, mod-eq_of_lt, mod-eq-sub-mod, div-eq_of_lt-le, div-mul-le_self}
@@ -11,7 +12,7 @@ use Rattle.slots.proofs.Order.{by_order}
 use Rattle.slots.proofs.From.{from_is}
 
 -- slot 0 is at the origin
-pub endless-zero : (P : ℕ) → endless_slot P 0 ≡ Pulse
+pub endless-zero : (P : ℕ) → endless_slot P 0 ≡ (Some Pulse)
 unfolding endless_slot
 endless-zero P = rw (zero-mod P)
 

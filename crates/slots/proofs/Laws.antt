@@ -1,4 +1,5 @@
 -- Laws of the tariffs that run: their slots are at least 2S apart, and quiet ticks are those before the next slot.
+use Rattle.std.specs.Prelude.{None, Option, Some}
 use mathlib.Core.Path.{◌≡◌, refl, sym, ◌∙◌}
 use mathlib.Core.Bool.{true, false, and-eq-true_iff, false≢true}
 use mathlib.Core.List.{List, []}
@@ -13,7 +14,7 @@ use Rattle.rules.specs.Rules.{sound_em, sound_phases}
 use Rattle.tariff.specs.Tariffs.{em_of, phased_of}
 use Rattle.tariff.specs.declared.Phase.{Phase}
 use Rattle.tariff.specs.declared.Slot.{Slot}
-use Rattle.tariff.specs.declared.Slot.TheVariants.{None, Empty, Pulse}
+use Rattle.tariff.specs.declared.Slot.TheVariants.{Empty, Pulse}
 use Rattle.tariff.specs.declared.Tariff.TheVariants.{Endless, Counted}
 use Rattle.slots.specs.Slots.{endless_slot, counted_slot, phased_slot}
 use Rattle.slots.specs.Slots.{Running, nothing, endless, counted, phased, slot_at, no_slot, quiet_for}
@@ -57,12 +58,12 @@ pub record NextSlot (r : Running) (t u : ℕ) : Type 0 where
   pub slot : slot_at r u ≡ None → ⊥
   pub least : (v : ℕ) → t < v → v < u → slot_at r v ≡ None
 
-none_of : (s : Slot) → no_slot s ≡ true → s ≡ None
+none_of : (s : Option Slot) → no_slot s ≡ true → s ≡ None
 none_of None e = refl
-none_of Empty e = absurd (false≢true e)
-none_of Pulse e = absurd (false≢true e)
+none_of (Some Empty) e = absurd (false≢true e)
+none_of (Some Pulse) e = absurd (false≢true e)
 
-some_of : (s : Slot) → no_slot s ≡ false → s ≢ None
+some_of : (s : Option Slot) → no_slot s ≡ false → s ≢ None
 some_of s e n = false≢true (sym e ∙ rw n)
 
 -- there is at most one next slot

@@ -1,4 +1,5 @@
 -- A phase has the pulses of its charge intervals, and a short last interval is charged in full.
+use Rattle.std.specs.Prelude.{None, Option, Some}
 use mathlib.Core.Path.{◌≡◌, refl, sym, ◌∙◌, ap}
 use mathlib.Core.Bool.{Bool, true, false, cond}
 use mathlib.Core.Logic.{◌⊎◌, inl, inr}
@@ -13,16 +14,16 @@ use Rattle.fractions.specs.Rounding.{rounded_up}
 use Rattle.rules.specs.Rules.{sound_phase}
 use Rattle.tariff.specs.declared.Phase.{Phase}
 use Rattle.tariff.specs.declared.Slot.{Slot}
-use Rattle.tariff.specs.declared.Slot.TheVariants.{None, Empty, Pulse}
+use Rattle.tariff.specs.declared.Slot.TheVariants.{Empty, Pulse}
 use Rattle.slots.specs.Slots.{any_below, interval_slot, interval_pulses, phase_slot}
 use Rattle.slots.proofs.Count.{count_below, count-more, count_same, count_multiples}
 use Rattle.slots.proofs.PhasedSound.{SoundPhase, sound-phase}
 use Rattle.slots.proofs.PhasedEntry.{pulses-most}
 
-abbrev pub is_pulse : Slot → Bool
+abbrev pub is_pulse : Option Slot → Bool
 is_pulse None = false
-is_pulse Empty = false
-is_pulse Pulse = true
+is_pulse (Some Empty) = false
+is_pulse (Some Pulse) = true
 
 -- ---- one interval
 
@@ -31,7 +32,7 @@ unfolding interval_slot any_below
 interval-pulse zero q z = cases (eqb z 0) (λ t. rw t) (λ t. rw t)
 interval-pulse (suc m) q z = of (any_below (suc m) (λ j. eqb (j * q) z))
   where
-    of : (b : Bool) → is_pulse (cond b Pulse None) ≡ b
+    of : (b : Bool) → is_pulse (cond b (Some Pulse) None) ≡ b
     of true = refl
     of false = refl
 

@@ -1,4 +1,5 @@
 -- The laws of a phased tariff: its slot that is due now, and its start.
+use Rattle.std.specs.Prelude.{Some}
 use mathlib.Core.Path.{◌≡◌, sym, ◌∙◌, ap}
 use mathlib.Core.Bool.{true, cond, not, ◌&&◌}
 use mathlib.Core.List.{List, ◌∷◌}
@@ -25,7 +26,7 @@ use Rattle.slots.proofs.PhasedKept.{left-whole}
 -- ---- a slot that is due now
 
 pub phased-zero : (S : ℕ) (a : List Phase) (n i e l j : ℕ) → PhasedGood S a n i e l j
-    → slots_of a n (Phased i e l j) 0 ≡ cond (eqb (pulses_at (phase_at a i) e) 0) Empty Pulse
+    → slots_of a n (Phased i e l j) 0 ≡ Some (cond (eqb (pulses_at (phase_at a i) e) 0) Empty Pulse)
 unfolding slots_of
 phased-zero S a n i e l j good =
     rw (zero-add (j * (phase_at a i).pri)) (slot-now S (phase_at a i) (after a n i) e l j (room_of_lem S a n i e l j good) good.pulse)

@@ -1,4 +1,5 @@
 -- The slots of one charge interval of m pulses, q ticks apart.
+use Rattle.std.specs.Prelude.{None, Some}
 use mathlib.Core.Path.{◌≡◌, refl}
 use mathlib.Core.Bool.{cond}
 use Prim.Native.Nat.{ℕ, zero, suc, ◌*◌, max, ◌≤◌, ◌<◌}
@@ -7,12 +8,12 @@ use native.Mathlib.Nat.{mul-le-mul_right, zero-mul}
 use native.Mathlib.Omega.{arith}
 use borrow.Author.Tests.{eq-eqb, ne_eqb}
 use lib.Dec.{eqb, eqb-suc-zero}
-use Rattle.tariff.specs.declared.Slot.TheVariants.{None, Empty, Pulse}
+use Rattle.tariff.specs.declared.Slot.TheVariants.{Empty, Pulse}
 use Rattle.slots.specs.Slots.{interval_slot}
 use Rattle.slots.proofs.Any.{any_some, any_none}
 
 -- slot j
-pub interval-slot : (m q j : ℕ) → j < max 1 m → interval_slot m q (j * q) ≡ cond (eqb m 0) Empty Pulse
+pub interval-slot : (m q j : ℕ) → j < max 1 m → interval_slot m q (j * q) ≡ Some (cond (eqb m 0) Empty Pulse)
 unfolding interval_slot
 interval-slot zero q zero h = rw (eq-eqb (0 * q) 0 (zero-mul q))
 interval-slot zero q (suc j) h = absurd (omega arith)

@@ -1,4 +1,5 @@
 -- A slot of a phased tariff, and the slots after it.
+use Rattle.std.specs.Prelude.{None, Option, Some}
 use mathlib.Core.Path.{◌≡◌, refl, sym, ◌∙◌, ap}
 use mathlib.Core.Bool.{cond}
 use mathlib.Core.List.{List, ◌∷◌}
@@ -10,7 +11,7 @@ use Rattle.tariff.specs.Tariffs.{phase_at}
 use Rattle.steps.specs.Steps.{pulses_at, next_entry}
 use Rattle.tariff.specs.declared.Phase.{Phase}
 use Rattle.tariff.specs.declared.Slot.{Slot}
-use Rattle.tariff.specs.declared.Slot.TheVariants.{None, Empty, Pulse}
+use Rattle.tariff.specs.declared.Slot.TheVariants.{Empty, Pulse}
 use Rattle.tariff.specs.declared.Tariff.TheVariants.{Phased}
 use Rattle.steps.specs.declared.Waiting.{Waiting}
 use Rattle.slots.specs.Slots.{interval_slot, phased_slot}
@@ -28,7 +29,7 @@ module _ (S : ℕ) (p : Phase) (ps : List Phase) (e l j : ℕ) (room : Room S p 
   in_interval : (x : ℕ) → x < 1000 * p.ci → (1 ≤ l → x < 1000 * l) → phases_from p ps e l x ≡ interval_slot (pulses_at p e) p.pri x
   in_interval x h lasts = rw room.pulses (slots.phase-lasts p ps e l x lasts ∙ slots.this-interval p e x h)
 
-  pub slot-now : j < max 1 (pulses_at p e) → phases_from p ps e l (j * p.pri) ≡ cond (eqb (pulses_at p e) 0) Empty Pulse
+  pub slot-now : j < max 1 (pulses_at p e) → phases_from p ps e l (j * p.pri) ≡ Some (cond (eqb (pulses_at p e) 0) Empty Pulse)
   slot-now h =
       in_interval (j * p.pri)
       (slot-before j p.pri (1000 * p.ci) room.interval (omega (arith, room.sound.second)))
@@ -48,7 +49,7 @@ module _ (S : ℕ) (a : List Phase) (n i e l j : ℕ) (good : PhasedGood S a n i
   abbrev room : Room S p e l j
   room = room_of_lem S a n i e l j good
 
-  abbrev slot : Slot
+  abbrev slot : Option Slot
   slot = slots_of a n (Phased i e l j) y
 
   quiet : (suc j < pulses_at p e → y < p.pri) → y + j * p.pri < 1000 * p.ci → (1 ≤ l → y + j * p.pri < 1000 * l) → slot ≡ None

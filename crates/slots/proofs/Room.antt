@@ -1,4 +1,5 @@
 -- The next slot of what runs is where the line expects it, and so is the room before it.
+use Rattle.std.specs.Prelude.{None}
 use mathlib.Core.Path.{◌≡◌, refl, sym, ◌∙◌, ap}
 use mathlib.Core.Bool.{true, false, ◌||◌, false≢true}
 use mathlib.Core.List.{List}
@@ -10,7 +11,6 @@ use lib.Dec.{leb, eqb}
 use Rattle.tariff.specs.Tariffs.{phase_at, room_of}
 use Rattle.steps.specs.Steps.{pulses_at, due_of}
 use Rattle.tariff.specs.declared.Phase.{Phase}
-use Rattle.tariff.specs.declared.Slot.TheVariants.{None}
 use Rattle.tariff.specs.declared.Tariff.{Tariff}
 use Rattle.tariff.specs.declared.Tariff.TheVariants.{Idle, Endless, Counted, Phased, Ending}
 use Rattle.slots.specs.Slots.{Running, slot_at, no_slot, quiet_for}
@@ -37,7 +37,7 @@ unfolding due_of
 some-due D a n Idle w l = absurd (omega arith)
 some-due D a n (Endless P) w l = refl
 some-due D a n (Counted C P k) w l = refl
-some-due D a n (Phased i e p j) w l = cases (eqb (pulses_at (phase_at a i) e) 0) (λ b. rw b) (λ b. rw b)
+some-due D a n (Phased i e p j) w l = refl
 some-due D a n Ending w l = absurd (omega arith)
 
 module _ (S D : ℕ) (a : List Phase) (n : ℕ) (r : Running) (t : Tariff) (w i : ℕ) (g : Good S a n t w)

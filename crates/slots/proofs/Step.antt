@@ -1,4 +1,5 @@
 -- One tick of a tariff of any kind: its wait goes on, or it is over and what it waits for is due.
+use Rattle.std.specs.Prelude.{None, Option}
 use mathlib.Core.Path.{◌≡◌, refl, sym, ◌∙◌, ap}
 use mathlib.Core.Bool.{false}
 use mathlib.Core.List.{List}
@@ -10,7 +11,6 @@ use lib.Dec.{ltb}
 use Rattle.steps.specs.Steps.{waiting, stepped, due_of, step_of}
 use Rattle.tariff.specs.declared.Phase.{Phase}
 use Rattle.tariff.specs.declared.Slot.{Slot}
-use Rattle.tariff.specs.declared.Slot.TheVariants.{None}
 use Rattle.steps.specs.declared.Stepped.{Stepped}
 use Rattle.tariff.specs.declared.Tariff.{Tariff}
 use Rattle.tariff.specs.declared.Tariff.TheVariants.{Idle, Endless, Counted, Phased, Ending}
@@ -45,7 +45,7 @@ none_left S a n (Phased i e l j) w g left y = absurd (omega (arith, g.0))
 none_left S a n Ending w g left y = from-none (λ _. None) 0 y (λ x. refl)
 
 -- once the wait is over, the slots are those of its kind
-begun : (slots : ℕ → Slot) (w y : ℕ) → Waits w → w ≤ 1 → from w slots (suc y) ≡ slots y
+begun : (slots : ℕ → Option Slot) (w y : ℕ) → Waits w → w ≤ 1 → from w slots (suc y) ≡ slots y
 begun slots w y some due = from_past slots w (suc y) (omega arith) ∙ ap slots (omega arith)
 
 pub past-due : (S : ℕ) (a : List Phase) (n : ℕ) (t : Tariff) (w : ℕ) → Good S a n t w → w ≤ 1 → (y : ℕ)

@@ -1,9 +1,10 @@
 -- The slots of a tariff: in ticks from its origin, and at each tick while it runs. "Slots" of the paper.
-use Rattle.std.specs.Prelude.{Bool, true, false, cond, not, ◌&&◌, ◌||◌, List, [], ◌∷◌, ℕ, zero, suc, ◌+◌, ◌-◌, ◌*◌, ◌/◌, ◌%◌, leb, ltb, eqb}
+use Rattle.std.specs.Prelude.{Bool, true, false, cond, not, ◌&&◌, ◌||◌, List, [], ◌∷◌, ℕ, zero, suc, ◌+◌, ◌-◌, ◌*◌}
+use Rattle.std.specs.Prelude.{◌/◌, ◌%◌, leb, ltb, eqb, Option, None, Some}
 use Rattle.pulse_map.specs.Pulses.{pulses_of, entry_of}
 use Rattle.tariff.specs.declared.Phase.{Phase}
 use Rattle.tariff.specs.declared.Slot.{Slot}
-use Rattle.tariff.specs.declared.Slot.TheVariants.{None, Empty, Pulse}
+use Rattle.tariff.specs.declared.Slot.TheVariants.{Empty, Pulse}
 
 -- some number below n passes the test
 unfoldable pub any_below : ℕ → (ℕ → Bool) → Bool
@@ -11,28 +12,28 @@ any_below zero test = false
 any_below (suc n) test = test n || any_below n test
 
 -- em with C = 0: slots at 0, P, and so on
-unfoldable pub endless_slot : ℕ → ℕ → Slot
-endless_slot P x = cond (eqb (x % P) 0) Pulse None
+unfoldable pub endless_slot : ℕ → ℕ → Option Slot
+endless_slot P x = cond (eqb (x % P) 0) (Some Pulse) None
 
 -- em with C > 0: slot k (0 to C − 1) at k × P/C, rounded down
-unfoldable pub counted_slot : ℕ → ℕ → ℕ → Slot
-counted_slot C P x = cond (any_below C (λ k. eqb (k * P / C) x)) Pulse None
+unfoldable pub counted_slot : ℕ → ℕ → ℕ → Option Slot
+counted_slot C P x = cond (any_below C (λ k. eqb (k * P / C) x)) (Some Pulse) None
 
 -- a charge interval of m pulses: slots at j × pri, j below m; with m = 0 the start is an empty slot
-unfoldable pub interval_slot : ℕ → ℕ → ℕ → Slot
-interval_slot zero pri z = cond (eqb z 0) Empty None
-interval_slot (suc m) pri z = cond (any_below (suc m) (λ j. eqb (j * pri) z)) Pulse None
+unfoldable pub interval_slot : ℕ → ℕ → ℕ → Option Slot
+interval_slot zero pri z = cond (eqb z 0) (Some Empty) None
+interval_slot (suc m) pri z = cond (any_below (suc m) (λ j. eqb (j * pri) z)) (Some Pulse) None
 
 -- the pulses of interval i of a phase: pcx for X and pcn for N, by map entry i mod (repx + repn)
 unfoldable pub interval_pulses : Phase → ℕ → ℕ
 interval_pulses p i = pulses_of p.pcx p.pcn (entry_of p.repx p.repn i)
 
 -- interval i starts i × ci seconds into its phase
-unfoldable pub phase_slot : Phase → ℕ → Slot
+unfoldable pub phase_slot : Phase → ℕ → Option Slot
 phase_slot p x = interval_slot (interval_pulses p (x / (1000 * p.ci))) p.pri (x % (1000 * p.ci))
 
 -- phases follow each other, each pd seconds; pd = 0 is endless
-unfoldable pub phased_slot : List Phase → ℕ → Slot
+unfoldable pub phased_slot : List Phase → ℕ → Option Slot
 phased_slot [] x = None
 phased_slot (p ∷ ps) x = cond (eqb p.pd 0 || ltb x (1000 * p.pd)) (phase_slot p x) (phased_slot ps (x - 1000 * p.pd))
 
@@ -61,18 +62,18 @@ abbrev pub runs_endless : Running → Bool
 runs_endless r = elim r [ nothing ↦ false | endless f P ↦ true | counted f C P ↦ false | phased f ps ↦ false ]
 
 -- slots that begin at tick f
-abbrev pub from : ℕ → (ℕ → Slot) → ℕ → Slot
+abbrev pub from : ℕ → (ℕ → Option Slot) → ℕ → Option Slot
 from f slots t = cond (leb f t) (slots (t - f)) None
 
 -- what a tariff has at tick t
-unfoldable pub slot_at : Running → ℕ → Slot
+unfoldable pub slot_at : Running → ℕ → Option Slot
 slot_at nothing t = None
 slot_at (endless f P) t = from f (endless_slot P) t
 slot_at (counted f C P) t = from f (counted_slot C P) t
 slot_at (phased f ps) t = from f (phased_slot ps) t
 
-abbrev pub no_slot : Slot → Bool
-no_slot s = elim s [ None ↦ true | Empty ↦ false | Pulse ↦ false ]
+abbrev pub no_slot : Option Slot → Bool
+no_slot s = elim s [ None ↦ true | Some slot ↦ false ]
 
 -- the n ticks after tick t have no slot
 unfoldable pub quiet_for : Running → ℕ → ℕ → Bool

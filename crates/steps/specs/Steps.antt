@@ -1,5 +1,5 @@
 -- A tariff one tick on: what the code computes.
-use Rattle.std.specs.Prelude.{Bool, true, false, cond, ◌||◌, List, ℕ, ◌+◌, ◌-◌, ◌*◌, ◌/◌, ltb, eqb}
+use Rattle.std.specs.Prelude.{Bool, true, false, cond, ◌||◌, List, ℕ, ◌+◌, ◌-◌, ◌*◌, ◌/◌, ltb, eqb, Option, None, Some}
 use Rattle.fractions.specs.Answers.{Result, refused, given}
 use Rattle.pulse_map.specs.Pulses.{pulses_of}
 use Rattle.pulse_map.specs.Map.{Entry}
@@ -7,7 +7,7 @@ use Rattle.pulse_map.specs.Answers.{element_answer}
 use Rattle.tariff.specs.Tariffs.{phase_at}
 use Rattle.tariff.specs.declared.Phase.{Phase}
 use Rattle.tariff.specs.declared.Slot.{Slot}
-use Rattle.tariff.specs.declared.Slot.TheVariants.{None, Empty, Pulse}
+use Rattle.tariff.specs.declared.Slot.TheVariants.{Empty, Pulse}
 use Rattle.tariff.specs.declared.Tariff.{Tariff}
 use Rattle.tariff.specs.declared.Tariff.TheVariants.{Idle, Endless, Counted, Phased, Ending}
 use Rattle.steps.specs.declared.Waiting.{Waiting}
@@ -32,7 +32,7 @@ distance_after C P k = (k + 1) * P / C - k * P / C
 abbrev pub waiting : Tariff → ℕ → Waiting
 waiting t w = record { tariff = t; wait = w }
 
-abbrev pub stepped : Waiting → Slot → Bool → Stepped
+abbrev pub stepped : Waiting → Option Slot → Bool → Stepped
 stepped x s done = record { tariff = x.tariff; wait = x.wait; slot = s; complete = done }
 
 -- after slot k of an em with C > 0, whose last pulse ends D ticks later
@@ -57,11 +57,11 @@ after_phased ps n i e l j p m =
 -- what is due when the wait is over: a slot, or the completion
 unfoldable pub due_of : ℕ → List Phase → ℕ → Tariff → Stepped
 due_of D ps n Idle = stepped (waiting Idle 0) None false
-due_of D ps n (Endless P) = stepped (waiting (Endless P) P) Pulse false
-due_of D ps n (Counted C P k) = stepped (after_counted D C P k) Pulse false
+due_of D ps n (Endless P) = stepped (waiting (Endless P) P) (Some Pulse) false
+due_of D ps n (Counted C P k) = stepped (after_counted D C P k) (Some Pulse) false
 due_of D ps n (Phased i e l j) =
     let m = pulses_at (phase_at ps i) e in
-    stepped (after_phased ps n i e l j (phase_at ps i) m) (cond (eqb m 0) Empty Pulse) false
+    stepped (after_phased ps n i e l j (phase_at ps i) m) (Some (cond (eqb m 0) Empty Pulse)) false
 due_of D ps n Ending = stepped (waiting Idle 0) None true
 
 -- one tick: one less to wait, or what is due

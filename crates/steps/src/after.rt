@@ -2,7 +2,7 @@
 ghost use Rattle.std.specs.Prelude.{◌≡◌, ◌-◌, ◌*◌, ◌<◌};
 ghost use Rattle.steps.specs.Steps.{distance_after, after_counted, after_phase, after_interval, after_phased};
 
-use super::{Waiting, intervals, numbers};
+use super::{Waiting, intervals};
 use tariff::{Phase, Tariff};
 
 // The ticks from slot k of an em with C > 0 to slot k + 1, each multiplied before it is divided, so that none drifts.
@@ -11,9 +11,9 @@ fn distance_after(count: u32, period: u32, k: u32) -> u64
     requires { 0 < count }
     ensures { result ≡ distance_after count period k }
 {
-    let c = count as u64;
-    let product = numbers::times(k, period);
-    (product + period as u64) / c - product / c
+    let c = u64::from(count);
+    let product = u64::from(k) * u64::from(period);
+    (product + u64::from(period)) / c - product / c
 }
 
 // After slot k of an em with C > 0: slot k + 1, or the end of the last pulse.
@@ -21,20 +21,15 @@ fn distance_after(count: u32, period: u32, k: u32) -> u64
 pub(crate) fn after_counted(pulse: u32, count: u32, period: u32, k: u32) -> Waiting
     ensures { result ≡ after_counted pulse count period k }
 {
-    if k as u64 + 1 < count as u64 {
-        Waiting {
-            tariff: Tariff::Counted {
-                count,
-                period,
-                next: k + 1,
-            },
-            wait: distance_after(count, period, k),
-        }
+    if u64::from(k) + 1 < u64::from(count) {
+        let tariff = Tariff::Counted {
+            count,
+            period,
+            next: k + 1,
+        };
+        Waiting::new(tariff, distance_after(count, period, k))
     } else {
-        Waiting {
-            tariff: Tariff::Ending,
-            wait: pulse as u64,
-        }
+        Waiting::new(Tariff::Ending, u64::from(pulse))
     }
 }
 
@@ -43,23 +38,16 @@ pub(crate) fn after_counted(pulse: u32, count: u32, period: u32, k: u32) -> Wait
 fn after_phase(phases: [Phase; 8], count: u32, i: u32, wait: u64) -> Waiting
     ensures { result ≡ after_phase phases count i wait }
 {
-    if i as u64 + 1 < count as u64 {
-        let next = i + 1;
-        let p = tariff::phase_at(phases, next);
-        Waiting {
-            tariff: Tariff::Phased {
-                phase: next,
-                entry: 0,
-                left: p.pd,
-                pulse: 0,
-            },
-            wait,
-        }
+    if u64::from(i) + 1 < u64::from(count) {
+        let next = Tariff::Phased {
+            phase: i + 1,
+            entry: 0,
+            left: tariff::phase_at(phases, i + 1).pd,
+            pulse: 0,
+        };
+        Waiting::new(next, wait)
     } else {
-        Waiting {
-            tariff: Tariff::Ending,
-            wait,
-        }
+        Waiting::new(Tariff::Ending, wait)
     }
 }
 
@@ -67,9 +55,7 @@ fn after_phase(phases: [Phase; 8], count: u32, i: u32, wait: u64) -> Waiting
 fn ticks_left(seconds: u32, j: u32, pri: u32) -> u64
     ensures { result ≡ 1000 * seconds - j * pri }
 {
-    let end = 1000 * seconds as u64;
-    let passed = numbers::times(j, pri);
-    if end < passed { 0 } else { end - passed }
+    (1000 * u64::from(seconds)).saturating_sub(u64::from(j) * u64::from(pri))
 }
 
 // After slot j, the last of an interval of phase i, which is p: the next interval of the phase, if there is one.
@@ -86,16 +72,14 @@ fn after_interval(
     ensures { result ≡ after_interval phases count i entry left j p }
 {
     // An endless phase goes on, and so does one with seconds left after this interval.
-    if (left == 0) | (p.ci < left) {
-        Waiting {
-            tariff: Tariff::Phased {
-                phase: i,
-                entry: intervals::next_entry(p, entry),
-                left: numbers::minus(left, p.ci),
-                pulse: 0,
-            },
-            wait: ticks_left(p.ci, j, p.pri),
-        }
+    if left == 0 || p.ci < left {
+        let tariff = Tariff::Phased {
+            phase: i,
+            entry: intervals::next_entry(p, entry),
+            left: left.saturating_sub(p.ci),
+            pulse: 0,
+        };
+        Waiting::new(tariff, ticks_left(p.ci, j, p.pri))
     } else {
         after_phase(phases, count, i, ticks_left(left, j, p.pri))
     }
@@ -115,16 +99,14 @@ pub(crate) fn after_phased(
 ) -> Waiting
     ensures { result ≡ after_phased phases count i entry left j p m }
 {
-    if j as u64 + 1 < m as u64 {
-        Waiting {
-            tariff: Tariff::Phased {
-                phase: i,
-                entry,
-                left,
-                pulse: j + 1,
-            },
-            wait: p.pri as u64,
-        }
+    if u64::from(j) + 1 < u64::from(m) {
+        let tariff = Tariff::Phased {
+            phase: i,
+            entry,
+            left,
+            pulse: j + 1,
+        };
+        Waiting::new(tariff, u64::from(p.pri))
     } else {
         after_interval(phases, count, i, entry, left, j, p)
     }

@@ -1,31 +1,51 @@
 // A tariff one tick on: what is due, and where the tariff stands after it.
 #![tactic(auto)]
 
-ghost use Rattle.std.specs.Prelude.{◌≡◌, cond, false, eqb};
-ghost use Rattle.steps.specs.Steps.{due_of, step_of, stepped};
+ghost use Rattle.std.specs.Prelude.{◌≡◌, cond, eqb};
+ghost use Rattle.steps.specs.Steps.{due_of, step_of, waiting, stepped};
 ghost use Rattle.tariff.specs.declared.Slot.TheVariants.{Empty, Pulse};
 ghost use Rattle.tariff.specs.declared.Tariff.TheVariants.{Phased};
 
 mod after;
 mod intervals;
-mod numbers;
 
 use tariff::{Phase, Slot, Tariff};
 
 // A tariff, and the ticks to its next slot or to its completion.
-#[derive(Clone, Copy)]
+#[derive(Clone, Copy, PartialEq, Eq, Debug)]
 pub struct Waiting {
     pub tariff: Tariff,
     pub wait: u64,
 }
 
-// A tariff one tick on, the ticks to its next slot or to its completion, and what that tick has.
-#[derive(Clone, Copy)]
+// A tariff one tick on, the ticks to its next slot or to its completion, the slot of that tick if it has one, and whether
+// the tariff is complete at it.
+#[derive(Clone, Copy, PartialEq, Eq, Debug)]
 pub struct Stepped {
     pub tariff: Tariff,
     pub wait: u64,
-    pub slot: Slot,
+    pub slot: Option<Slot>,
     pub complete: bool,
+}
+
+impl Waiting {
+    fn new(tariff: Tariff, wait: u64) -> Waiting
+        ensures { result ≡ waiting tariff wait }
+    {
+        Waiting { tariff, wait }
+    }
+
+    // The tariff after a tick with this slot or none.
+    fn stepped(self, slot: Option<Slot>, complete: bool) -> Stepped
+        ensures { result ≡ stepped self slot complete }
+    {
+        Stepped {
+            tariff: self.tariff,
+            wait: self.wait,
+            slot,
+            complete,
+        }
+    }
 }
 
 // The slot of an interval of m pulses.
@@ -35,19 +55,6 @@ fn slot_of(m: u32) -> Slot
     if m == 0 { Slot::Empty } else { Slot::Pulse }
 }
 
-// A tick with a slot, and the tariff after it.
-fn at_slot(next: Waiting, slot: Slot) -> Stepped
-    ensures { result ≡ stepped next slot false }
-{
-    let tariff = next.tariff;
-    Stepped {
-        tariff,
-        wait: next.wait,
-        slot,
-        complete: false,
-    }
-}
-
 // What is due of a phased tariff with so many phases.
 #[tactic(auto, unfolding(crate::specs::Steps::due_of))]
 fn due_phased(phases: [Phase; 8], count: u32, i: u32, entry: u64, left: u32, j: u32) -> Stepped
@@ -55,8 +62,7 @@ fn due_phased(phases: [Phase; 8], count: u32, i: u32, entry: u64, left: u32, j: 
 {
     let p = tariff::phase_at(phases, i);
     let m = intervals::pulses_at(p, entry);
-    let next = after::after_phased(phases, count, i, entry, left, j, p, m);
-    at_slot(next, slot_of(m))
+    after::after_phased(phases, count, i, entry, left, j, p, m).stepped(Some(slot_of(m)), false)
 }
 
 // What is due when the wait is over, on a line with so many phases, whose pulses last `pulse` ticks.
@@ -65,38 +71,22 @@ fn due(tariff: Tariff, pulse: u32, phases: [Phase; 8], count: u32) -> Stepped
     ensures { result ≡ due_of pulse phases count tariff }
 {
     match tariff {
-        Tariff::Idle => Stepped {
-            tariff,
-            wait: 0,
-            slot: Slot::None,
-            complete: false,
-        },
-        Tariff::Endless { interval } => Stepped {
-            tariff,
-            wait: interval as u64,
-            slot: Slot::Pulse,
-            complete: false,
-        },
+        Tariff::Idle => Waiting::new(tariff, 0).stepped(None, false),
+        Tariff::Endless { interval } => {
+            Waiting::new(tariff, u64::from(interval)).stepped(Some(Slot::Pulse), false)
+        }
         Tariff::Counted {
             count: slots,
             period,
             next,
-        } => at_slot(
-            after::after_counted(pulse, slots, period, next),
-            Slot::Pulse,
-        ),
+        } => after::after_counted(pulse, slots, period, next).stepped(Some(Slot::Pulse), false),
         Tariff::Phased {
             phase,
             entry,
             left,
             pulse: j,
         } => due_phased(phases, count, phase, entry, left, j),
-        Tariff::Ending => Stepped {
-            tariff: Tariff::Idle,
-            wait: 0,
-            slot: Slot::None,
-            complete: true,
-        },
+        Tariff::Ending => Waiting::new(Tariff::Idle, 0).stepped(None, true),
     }
 }
 
@@ -106,12 +96,7 @@ pub fn step(tariff: Tariff, wait: u64, pulse: u32, phases: [Phase; 8], count: u3
     ensures { result ≡ step_of pulse phases count tariff wait }
 {
     if 1 < wait {
-        Stepped {
-            tariff,
-            wait: wait - 1,
-            slot: Slot::None,
-            complete: false,
-        }
+        Waiting::new(tariff, wait - 1).stepped(None, false)
     } else {
         due(tariff, pulse, phases, count)
     }

@@ -8,7 +8,7 @@ mod setting;
 pub use phases::phase_at;
 
 // A phase of a phased tariff, as a descriptor gives it.
-#[derive(Clone, Copy)]
+#[derive(Clone, Copy, PartialEq, Eq, Debug, Default)]
 pub struct Phase {
     pub pri: u32,
     pub pcx: u32,
@@ -19,17 +19,17 @@ pub struct Phase {
     pub pd: u32,
 }
 
-// What a tariff has at a tick.
-#[derive(Clone, Copy)]
+// A slot of a tariff at a tick.
+#[derive(Clone, Copy, PartialEq, Eq, Debug)]
 pub enum Slot {
-    None,
     Empty,
     Pulse,
 }
 
 // Where a tariff stands. The ticks to its next slot, or to its completion where it is ending, are kept beside it.
-#[derive(Clone, Copy)]
+#[derive(Clone, Copy, PartialEq, Eq, Debug, Default)]
 pub enum Tariff {
+    #[default]
     Idle,
     // An em with C = 0.
     Endless {

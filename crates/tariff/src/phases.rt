@@ -8,18 +8,5 @@ use super::Phase;
 pub fn phase_at(phases: [Phase; 8], i: u32) -> Phase
     ensures { result ≡ phase_at phases i }
 {
-    if i < 8 {
-        let k = i as usize;
-        phases[k]
-    } else {
-        Phase {
-            pri: 0,
-            pcx: 0,
-            repx: 0,
-            pcn: 0,
-            repn: 0,
-            ci: 0,
-            pd: 0,
-        }
-    }
+    phases.get(i as usize).copied().unwrap_or_default()
 }

@@ -9,22 +9,6 @@ impl Tariff {
     pub fn room(self, wait: u64, spacing: u32) -> bool
         ensures { result ≡ room_of spacing self wait }
     {
-        let least = spacing as u64;
-        match self {
-            Tariff::Idle => true,
-            Tariff::Endless { interval: _ } => least <= wait,
-            Tariff::Counted {
-                count: _,
-                period: _,
-                next: _,
-            } => least <= wait,
-            Tariff::Phased {
-                phase: _,
-                entry: _,
-                left: _,
-                pulse: _,
-            } => least <= wait,
-            Tariff::Ending => true,
-        }
+        matches!(self, Tariff::Idle | Tariff::Ending) || u64::from(spacing) <= wait
     }
 }

@@ -26,11 +26,10 @@ impl Tariff {
     pub fn phased(phases: [Phase; 8]) -> Tariff
         ensures { result ≡ phased_of phases }
     {
-        let first = phases::phase_at(phases, 0);
         Tariff::Phased {
             phase: 0,
             entry: 0,
-            left: first.pd,
+            left: phases[0].pd,
             pulse: 0,
         }
     }
@@ -40,7 +39,7 @@ impl Tariff {
     pub fn rate(self, interval: u32) -> Tariff
         ensures { result ≡ rate_of interval self }
     {
-        if let Tariff::Endless { interval: _ } = self {
+        if self.is_endless() {
             Tariff::Endless { interval }
         } else {
             self
@@ -51,32 +50,13 @@ impl Tariff {
     pub fn is_idle(self) -> bool
         ensures { result ≡ is_idle self }
     {
-        match self {
-            Tariff::Idle => true,
-            Tariff::Endless { interval: _ } => false,
-            Tariff::Counted {
-                count: _,
-                period: _,
-                next: _,
-            } => false,
-            Tariff::Phased {
-                phase: _,
-                entry: _,
-                left: _,
-                pulse: _,
-            } => false,
-            Tariff::Ending => false,
-        }
+        matches!(self, Tariff::Idle)
     }
 
     // Whether an em with C = 0 runs.
     pub fn is_endless(self) -> bool
         ensures { result ≡ is_endless self }
     {
-        if let Tariff::Endless { interval: _ } = self {
-            true
-        } else {
-            false
-        }
+        matches!(self, Tariff::Endless { .. })
     }
 }

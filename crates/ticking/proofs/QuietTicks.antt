@@ -1,4 +1,5 @@
 -- On a quiet line a tick only moves time on.
+use Rattle.std.specs.Prelude.{None as NoSlot}
 use Rattle.std.proofs.Common.{◌≡◌, ℕ, ◌-◌, ◌≤◌, Bool, true, false, not, ◌&&◌, ◌||◌, ltb, leb, List, refl, ap, arith, ltb-false, eqb-true}
 use mathlib.Core.Bool.{and-eq-true_iff, false≢true}
 use borrow.Author.Tests.{not-true}
@@ -6,7 +7,6 @@ use borrow.Table.Steps.{cases}
 use Rattle.tariff.specs.Tariffs.{room_of, is_idle}
 use Rattle.steps.specs.Steps.{waiting, stepped, due_of, step_of}
 use Rattle.tariff.specs.declared.Phase.{Phase}
-use Rattle.tariff.specs.declared.Slot.TheVariants.{None as NoSlot}
 use Rattle.tariff.specs.declared.Tariff.{Tariff}
 use Rattle.tariff.specs.declared.Tariff.TheVariants.{Idle, Endless, Counted, Phased, Ending}
 use Rattle.burst.specs.Bursts.{is_running, held_more, older_of, completes_of, aged_of, is_due, burst_quiet}

@@ -1,11 +1,10 @@
 -- One tick of a line: what the code computes.
-use Rattle.std.specs.Prelude.{ℕ, ◌+◌, ◌%◌, ◌^◌, Bool, true, not, ◌&&◌, ◌||◌, List, nat_le}
+use Rattle.std.specs.Prelude.{ℕ, ◌+◌, ◌%◌, ◌^◌, Bool, true, not, ◌&&◌, ◌||◌, List, nat_le, Option, None, Some}
 use Rattle.answers.specs.Fronts.{if_front, if_burst}
 use Rattle.answers.specs.declared.Front.{Front}
 use Rattle.tariff.specs.Tariffs.{room_of}
 use Rattle.tariff.specs.declared.Phase.{Phase}
 use Rattle.tariff.specs.declared.Slot.{Slot}
-use Rattle.tariff.specs.declared.Slot.TheVariants.{None as NoSlot, Empty, Pulse}
 use Rattle.steps.specs.Steps.{step_of}
 use Rattle.burst.specs.Bursts.{held_more, aged_of, is_due, begun_of}
 use Rattle.burst.specs.declared.Burst.{Burst}
@@ -22,8 +21,8 @@ unfoldable pub burst_after : Front → Burst → Burst
 burst_after f b = if_burst f (begun_of b) b
 
 -- something happened: a slot, an empty one too, a front, a completion, or the end of a pulse
-unfoldable pub happens : Slot → Front → Bool → Bool → Bool
-happens s f complete ended = elim s [ NoSlot ↦ if_front f true (complete || ended) | Empty ↦ true | Pulse ↦ true ]
+unfoldable pub happens : Option Slot → Front → Bool → Bool → Bool
+happens s f complete ended = elim s [ None ↦ if_front f true (complete || ended) | Some slot ↦ true ]
 
 -- the clock goes up; what is over ends; a slot due now, or else a burst pulse, begins; counters and report
 unfoldable pub moved_by : ℕ → ℕ → List Phase → ℕ → State → Moved

@@ -1,12 +1,12 @@
 -- What a tick begins: a rule that the paper gives in two sentences.
-use Rattle.std.specs.Prelude.{Bool, cond}
+use Rattle.std.specs.Prelude.{Bool, cond, Option, None as NoSlot, Some}
 use Rattle.answers.specs.declared.Front.{Front}
 use Rattle.answers.specs.declared.Front.TheVariants.{None, Tariff, Burst}
 use Rattle.tariff.specs.declared.Slot.{Slot}
-use Rattle.tariff.specs.declared.Slot.TheVariants.{None as NoSlot, Empty, Pulse}
+use Rattle.tariff.specs.declared.Slot.TheVariants.{Empty, Pulse}
 
 -- a slot due now starts its pulse, or nothing if it is empty; where no slot is due, a burst pulse may start
-abbrev pub front_at : Slot → Bool → Front
+abbrev pub front_at : Option Slot → Bool → Front
 front_at NoSlot burst = cond burst Burst None
-front_at Empty burst = None
-front_at Pulse burst = Tariff
+front_at (Some Empty) burst = None
+front_at (Some Pulse) burst = Tariff
