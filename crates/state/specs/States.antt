@@ -1,5 +1,6 @@
 -- What the code makes of the state of a line: its parts, its counters, and a tick at which nothing happens.
 use Rattle.std.specs.Prelude.{ℕ, ◌+◌, ◌-◌, ◌%◌, ◌^◌, max, Bool, true, false, cond, not, ◌&&◌, ◌||◌, nat_le, nat_lt}
+use Rattle.std.specs.Prelude.{Option, None, Some}
 use Rattle.answers.specs.Fronts.{if_front, silent}
 use Rattle.answers.specs.declared.Front.{Front}
 use Rattle.tariff.specs.Tariffs.{rate_of, is_idle}
@@ -11,7 +12,7 @@ use Rattle.state.specs.Rules.{one_more, report_due}
 use Rattle.state.specs.declared.Counters.{Counters}
 use Rattle.state.specs.declared.Count.{Count}
 use Rattle.state.specs.declared.State.{State}
-use Rattle.state.specs.declared.Quick.{Quick}
+use Rattle.state.specs.declared.Moved.{Moved}
 
 -- ---- its parts
 
@@ -52,7 +53,7 @@ count_of n =
     (record { counters = record { cpc = one_more n.cpc; pcslr = one_more n.pcslr; rp = n.rp }; report = false })
 
 -- after a tick with this front or none
-unfoldable pub count_by : Front → Counters → Count
+unfoldable pub count_by : Option Front → Counters → Count
 count_by f n = if_front f (count_of n) (record { counters = n; report = false })
 
 -- ---- a tick
@@ -80,10 +81,6 @@ waited_of S s =
       counters = s.counters;
     }
 
--- busy, or the tick, where it is quiet
-unfoldable pub quick_of : ℕ → ℕ → State → Quick
-quick_of D S s =
-    record {
-      busy = not (quiet_of D S s);
-      moved = record { state = waited_of S s; tick = silent; event = false };
-    }
+-- the tick where it is quiet; none where more may happen than that time goes on
+unfoldable pub quick_of : ℕ → ℕ → State → Option Moved
+quick_of D S s = cond (quiet_of D S s) (Some (record { state = waited_of S s; tick = silent; event = false })) None

@@ -7,11 +7,11 @@ mod quiet;
 
 use answers::Tick;
 use burst::Burst;
-pub use counting::one_more;
 use tariff::Tariff;
 
 // The pulses applied, the pulses since the last report, and the report period, 0 for none.
-#[derive(Clone, Copy)]
+// Stays: the period is one number of the record that an audit reads whole, and the paper says 0 for none.
+#[derive(Clone, Copy, PartialEq, Eq, Debug, Default)]
 pub struct Counters {
     pub cpc: u32,
     pub pcslr: u32,
@@ -19,7 +19,7 @@ pub struct Counters {
 }
 
 // The counters after a front, and whether it gives a report.
-#[derive(Clone, Copy)]
+#[derive(Clone, Copy, PartialEq, Eq, Debug)]
 pub struct Count {
     pub counters: Counters,
     pub report: bool,
@@ -27,7 +27,7 @@ pub struct Count {
 
 // All that a tick changes: the ticks to the next slot, or to the completion of a tariff that is ending; the clock; the
 // ticks since the last front, held at the spacing; what runs; the counters.
-#[derive(Clone, Copy)]
+#[derive(Clone, Copy, PartialEq, Eq, Debug)]
 pub struct State {
     pub wait: u64,
     pub clock: u32,
@@ -39,16 +39,9 @@ pub struct State {
 
 // The state after a tick, what the tick tells, and whether anything happened at it: a slot, an empty one too, a front, a
 // completion, or the end of a pulse.
-#[derive(Clone, Copy)]
+#[derive(Clone, Copy, PartialEq, Eq, Debug)]
 pub struct Moved {
     pub state: State,
     pub tick: Tick,
     pub event: bool,
-}
-
-// Whether more may happen at a tick than that time goes on, and the tick where it does not.
-#[derive(Clone, Copy)]
-pub struct Quick {
-    pub busy: bool,
-    pub moved: Moved,
 }

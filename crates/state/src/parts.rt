@@ -36,18 +36,13 @@ impl State {
     pub fn rated(self, interval: u32) -> State
         ensures { result ≡ with_rate self interval }
     {
-        let old = self.tariff;
-        self.with_tariff(self.wait, old.rate(interval), self.counters)
+        self.with_tariff(self.wait, self.tariff.rate(interval), self.counters)
     }
 
     // The ticks to the origin of a fresh tariff, on a line of this spacing.
     pub fn origin_wait(self, spacing: u32) -> u64
         ensures { result ≡ origin_wait spacing self }
     {
-        if self.since < spacing {
-            (spacing - self.since) as u64
-        } else {
-            1
-        }
+        u64::from(spacing.saturating_sub(self.since).max(1))
     }
 }
