@@ -12,7 +12,7 @@ use lib.ListN.{length, get_or, take, length-map, get_or-map}
 use Rattle.descriptor.specs.Refusals.{refusal_number}
 use Rattle.line.specs.Lines.{Verdict, make_of, blank_line}
 use Rattle.line.specs.declared.Line.{Line}
-use Rattle.std.specs.Prelude.{Ok, Err}
+use Rattle.std.specs.Prelude.{Ok, Err, Some}
 use Rattle.dispatcher.specs.Dispatch.{wrong_row, sent_of, turn_of}
 use Rattle.group.specs.Groups.{verdict_of}
 use Rattle.demand.specs.Calls.{Call, tick, Entry}
@@ -62,12 +62,12 @@ module _ (ms : List Making) where
 
     -- a refused call
     refused-lines : (c : CardCall) (r i : ℕ) → i < N →
-        let s = step_by (some r) k c in
+        let s = step_by (Some r) k c in
         past (line_history (s.entry ∷ h) i) (get_or s.card.lines i blank_line) ≡ after_calls (start i) (line_calls (s.entry ∷ h) i)
     unfolding line_history line_calls
     refused-lines c r i l = rw (append-nil (line_calls h i)) (x.lines i l)
 
-    refused-good : (c : CardCall) (r : ℕ) → Coupled ((step_by (some r) k c).entry ∷ h) (step_by (some r) k c).card
+    refused-good : (c : CardCall) (r : ℕ) → Coupled ((step_by (Some r) k c).entry ∷ h) (step_by (Some r) k c).card
     refused-good c r = record { size = x.size; lines = refused-lines c r; kept = kept-refused N h k.dispatcher x.kept c [] r }
 
     abbrev rows_by : CardCall → List (List Entry)
@@ -101,10 +101,10 @@ module _ (ms : List Making) where
           by (no o) = row-none (calls_at (tick_row m)) k.lines i (no-tick i (omega arith))
 
       -- the length that the dispatcher keeps is the first of the history
-      refusal_is : refusal k (tick_row m) ≡ cond (wrong_row (row_in N h) (min m N)) (some 14) none
-      refusal_is = λ i. cond (wrong_row (x.kept.row i) (min m (x.size i))) (some 14) none
+      refusal_is : refusal k (tick_row m) ≡ cond (wrong_row (row_in N h) (min m N)) (Some 14) none
+      refusal_is = λ i. cond (wrong_row (x.kept.row i) (min m (x.size i))) (Some 14) none
 
-      tick-good : (b : Bool) → wrong_row (row_in N h) (min m N) ≡ b → Step h (step_by (cond b (some 14) none) k (tick_row m))
+      tick-good : (b : Bool) → wrong_row (row_in N h) (min m N) ≡ b → Step h (step_by (cond b (Some 14) none) k (tick_row m))
       unfolding line_history line_calls
       tick-good true e = record { replied = rw e; coupled = refused-good (tick_row m) 14 }
       tick-good false e =

@@ -1,6 +1,6 @@
 -- A card: lines in a row and their dispatcher, the calls on it, and the history of a list of them.
 use Rattle.std.specs.Prelude.{cond, List, [], ◌∷◌, map, ℕ, suc, min, ltb, eqb, length, take, Ok, Err}
-use Rattle.std.proofs.Math.Option.{Option, none, some}
+use Rattle.std.specs.Prelude.{Option, None, Some}
 use Rattle.answers.specs.Fronts.{silent}
 use Rattle.answers.specs.declared.Tick.{Tick}
 use Rattle.phase_lists.specs.Lists.{no_lists}
@@ -73,7 +73,7 @@ refused_with (Err r) = some (refusal_number r)
 -- the number that it is refused with; a card that is shorter than m is lent whole
 abbrev pub refusal : Card → CardCall → Option ℕ
 refusal k (on_line p c) = none
-refusal k (tick_row m) = cond (wrong_row k.dispatcher.length (min m (length k.lines))) (some 14) none
+refusal k (tick_row m) = cond (wrong_row k.dispatcher.length (min m (length k.lines))) (Some 14) none
 refusal k (group m ps P) = refused_with (verdict_of (take m k.lines) ps P)
 
 -- not refused: its reply where it made these entries, and the dispatcher after it
@@ -102,7 +102,7 @@ taken_by k c ps =
 
 -- a refused call leaves the card as it was
 abbrev pub step_by : Option ℕ → Card → CardCall → Stepped
-step_by (some number) k c = record { entry = card_entry c (refuses number) []; card = k }
+step_by (Some number) k c = record { entry = card_entry c (refuses number) []; card = k }
 step_by none k c = taken_by k c (row_after (calls_at c) k.lines)
 
 abbrev pub card_step : Card → CardCall → Stepped

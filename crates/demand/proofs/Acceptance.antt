@@ -1,5 +1,6 @@
 -- A call is accepted exactly when no cause to refuse it applies, and else gets the lowest number that applies. A commit
 -- has causes of its own, which stand before those of its descriptor: what it is answered is in Tickets.
+use Rattle.std.specs.Prelude.{None, Some}
 use mathlib.Core.Path.{◌≡◌, refl}
 use mathlib.Core.Bool.{Bool}
 use mathlib.Core.List.{List, []}
@@ -21,8 +22,8 @@ use Rattle.demand.proofs.AnswerKinds.{ruled_answer}
 
 -- every call but a commit: its causes stand in the order of their numbers
 abbrev pub Ordered : Call → Type 0
-Ordered (describe none d) = Unit {0}
-Ordered (describe (some ticket) d) = ⊥
+Ordered (describe None d) = Unit {0}
+Ordered (describe (Some ticket) d) = ⊥
 Ordered (ask d) = Unit {0}
 Ordered (hook event) = Unit {0}
 Ordered (period rp) = Unit {0}
@@ -36,8 +37,8 @@ reading_ascends S e b senseless = (omega arith, tt)
 reading_ascends S e b (descriptor t ls p) = descriptor_ascends S e b t ls p
 
 pub causes_ascend : (S : ℕ) (e b : Bool) (serial : ℕ) (c : Call) → Ordered c → Ascending 0 (causes S e b serial c)
-causes_ascend S e b serial (describe none d) o = reading_ascends S e b d
-causes_ascend S e b serial (describe (some ticket) d) o = absurd o
+causes_ascend S e b serial (describe None d) o = reading_ascends S e b d
+causes_ascend S e b serial (describe (Some ticket) d) o = absurd o
 causes_ascend S e b serial (ask d) o = tt
 causes_ascend S e b serial (hook event) o = tt
 causes_ascend S e b serial (period rp) o = period_ascends rp

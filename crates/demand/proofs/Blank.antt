@@ -23,7 +23,7 @@ use Rattle.ticking.specs.Moves.{moved_by}
 use Rattle.line.specs.Lines.{blank_line, make_of, with_serial, ask_of, hook_of, period_of, no_period_of, audit_of, answered_by, tariff_changed, burst_changed, with_period, move_of, tick_of}
 use Rattle.line.specs.declared.Line.{Line}
 use Rattle.grammar.specs.Meaning.{Reading, unreadable, senseless, descriptor}
-use Rattle.demand.specs.Names.{NoFront, Phase, TariffPart, NoTariff, KeepTariff, Rate, Em, Phased, BurstPart, NoBurst, KeepBurst, Start, KeepHook, Stop, Ruling, Ok, Err}
+use Rattle.demand.specs.Names.{None, Phase, TariffPart, NoTariff, KeepTariff, Rate, Em, Phased, BurstPart, NoBurst, KeepBurst, Start, KeepHook, Stop, Ruling, Ok, Err}
 use Rattle.demand.specs.Calls.{Call, describe, ask, hook, period, no_period, audit, tick, Entry}
 use Rattle.demand.specs.History.{front_of, sum, ticks}
 use Rattle.demand.specs.Machine.{ruling_of, answered, step, Past, past, noted, after_calls, entries, history}
@@ -89,7 +89,7 @@ module _ (i : ℕ) where
   with-serial l x = record { spacing = x.spacing; tariff = x.tariff; wait = x.wait; since = x.since }
 
   -- ---- a tick
-  front-due : (l : Line) → Quiet i l → i + 1 < 4294967295 → (move_of l).tick.front ≡ NoFront
+  front-due : (l : Line) → Quiet i l → i + 1 < 4294967295 → (move_of l).tick.front ≡ None
   unfolding moved_by step_of due_of
   front-due l x early =
       rw (x.tariff, x.wait, lt-leb l.spacing (held_more l.spacing l.state.since) (omega (arith, x.spacing, x.since, early)), and-false (is_due (aged_of l.pulse l.state.burst).burst))

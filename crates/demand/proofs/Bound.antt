@@ -1,4 +1,5 @@
 -- The last pulse of a burst begins in time.
+use Rattle.std.specs.Prelude.{Option, None, Some}
 use mathlib.Core.Path.{◌≡◌, refl, sym, ap, ◌∙◌}
 use mathlib.Core.Bool.{cond}
 use mathlib.Core.List.{List, [], ◌∷◌, ◌++◌, append_assoc}
@@ -9,7 +10,7 @@ use native.Mathlib.Omega.{arith}
 use borrow.Author.Tests.{lt-ltb, le-ltb}
 use Rattle.answers.specs.Fronts.{is_burst_front}
 use Rattle.answers.specs.declared.Front.{Front}
-use Rattle.answers.specs.declared.Front.TheVariants.{None, Tariff as TariffFront, Burst as BurstFront}
+use Rattle.answers.specs.declared.Front.TheVariants.{Tariff as TariffFront, Burst as BurstFront}
 use Rattle.descriptor.specs.declared.BurstPart.TheVariants.{Start}
 use Rattle.burst.specs.declared.Burst.{Burst}
 use Rattle.burst.specs.Bursts.{burst_with}
@@ -126,7 +127,7 @@ module _ (S : ℕ) (z : 1 ≤ S) (n K j r done : ℕ) (l l' : Line) (e : Entry) 
         low = rw t (omega (arith, x.low, one_fewer x.others (x.distance + 2 * S) more));
       }
     where
-      burst-more : {m : ℕ} → front_of e ≡ BurstFront → is_burst_front (front_of e) + done < n → suc m + done ≡ n → 1 ≤ m
+      burst-more : {m : ℕ} → front_of e ≡ Some BurstFront → is_burst_front (front_of e) + done < n → suc m + done ≡ n → 1 ≤ m
       burst-more f b c = let d = rw f at b in omega arith
 
 -- an accepted start of n pulses leaves them all owed
@@ -186,10 +187,10 @@ unfolding before_last sum
 before-all f n [] h = refl
 before-all f n (e ∷ rest) h = rw (lt-ltb (begun rest) n (omega arith)) (omega (arith, before-all f n rest (omega arith)))
 
-burst-front : (f : Front) → 1 ≤ is_burst_front f → f ≡ BurstFront
+burst-front : (f : Option Front) → 1 ≤ is_burst_front f → f ≡ Some BurstFront
 burst-front None h = absurd (omega arith)
-burst-front TariffFront h = absurd (omega arith)
-burst-front BurstFront h = refl
+burst-front (Some TariffFront) h = absurd (omega arith)
+burst-front (Some BurstFront) h = refl
 
 -- the n-th burst front of rest, and what stands before it
 pub record Found (n : ℕ) (rest : List Entry) : Type 0 where
@@ -197,7 +198,7 @@ pub record Found (n : ℕ) (rest : List Entry) : Type 0 where
   pub front : Entry
   pub until : List Entry
   pub split : rest ≡ after ++ (front ∷ until)
-  pub burst : front_of front ≡ BurstFront
+  pub burst : front_of front ≡ Some BurstFront
   pub last : begun until + 1 ≡ n
   pub asked : (f : Entry → ℕ) → sum f until ≤ before_last f n rest
 
@@ -219,7 +220,7 @@ find n (e ∷ rest) o h = by (dec_le n (begun rest)) (λ p. find n rest o p)
           asked = λ f. rw (le-ltb (begun rest) n p) (omega (arith, x.asked f));
         }
     by (no p) earlier =
-        let b : front_of e ≡ BurstFront = burst-front (front_of e) (omega arith) in
+        let b : front_of e ≡ Some BurstFront = burst-front (front_of e) (omega arith) in
         let one : is_burst_front (front_of e) ≡ 1 = ap is_burst_front b in
         record {
           after = [];

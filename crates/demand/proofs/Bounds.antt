@@ -11,7 +11,7 @@ use borrow.Table.Steps.{cases}
 use lib.Dec.{leb}
 use lib.ListN.{length}
 use Rattle.answers.specs.declared.Front.{Front}
-use Rattle.answers.specs.declared.Front.TheVariants.{None, Tariff as TariffFront, Burst as BurstFront}
+use Rattle.answers.specs.declared.Front.TheVariants.{Tariff as TariffFront, Burst as BurstFront}
 use Rattle.tariff.specs.Ranges.{within}
 use Rattle.tariff.specs.Tariffs.{room_of, is_endless}
 use Rattle.steps.specs.Steps.{step_of}
@@ -25,7 +25,7 @@ use Rattle.descriptor.specs.declared.TariffPart.TheVariants.{None as NoTariff, K
 use Rattle.descriptor.specs.declared.BurstPart.{BurstPart}
 use Rattle.descriptor.specs.declared.BurstPart.TheVariants.{None as NoBurst, Keep as KeepBurst, Start}
 use Rattle.descriptor.specs.Names.{Ruling}
-use Rattle.std.specs.Prelude.{Ok, Err}
+use Rattle.std.specs.Prelude.{Ok, Err, None, Some}
 use Rattle.descriptor.specs.declared.Hook.TheVariants.{Keep, Stop}
 use Rattle.burst.specs.Bursts.{no_burst, is_running, held_more, completes_of, aged_of, is_due}
 use Rattle.burst.specs.declared.Burst.{Burst}
@@ -149,28 +149,28 @@ unfolding aged_of
 aged-bounded D b x =
     cases (completes_of D b) (λ e. rw e no-burst) (λ e. rw e (record { owed = x.owed; distance = x.distance; since = omega arith }))
 
-after-bounded : (f : Front) (b : Burst) → BurstBounded b → BurstBounded (burst_after f b)
+after-bounded : (f : Option Front) (b : Burst) → BurstBounded b → BurstBounded (burst_after f b)
 unfolding burst_after
 after-bounded None b x = x
-after-bounded TariffFront b x = x
-after-bounded BurstFront b x = record { owed = omega (arith, x.owed); distance = x.distance; since = omega arith }
+after-bounded (Some TariffFront) b x = x
+after-bounded (Some BurstFront) b x = record { owed = omega (arith, x.owed); distance = x.distance; since = omega arith }
 
-pub since-bounded : (S since : ℕ) (f : Front) → since ≤ S → since_front f since ≤ S
+pub since-bounded : (S since : ℕ) (f : Option Front) → since ≤ S → since_front f since ≤ S
 unfolding since_front
 since-bounded S since None l = l
-since-bounded S since TariffFront l = omega arith
-since-bounded S since BurstFront l = omega arith
+since-bounded S since (Some TariffFront) l = omega arith
+since-bounded S since (Some BurstFront) l = omega arith
 
 count-bounded : (n : Counters) → CountersBounded (count_of n).counters
 unfolding count_of
 count-bounded n =
     cases (report_due n.rp (one_more n.pcslr)) (λ e. rw e (record { cpc = omega arith; pcslr = omega arith })) (λ e. rw e (record { cpc = omega arith; pcslr = omega arith }))
 
-counted-bounded : (f : Front) (n : Counters) → CountersBounded n → CountersBounded (count_by f n).counters
+counted-bounded : (f : Option Front) (n : Counters) → CountersBounded n → CountersBounded (count_by f n).counters
 unfolding count_by
 counted-bounded None n x = x
-counted-bounded TariffFront n x = count-bounded n
-counted-bounded BurstFront n x = count-bounded n
+counted-bounded (Some TariffFront) n x = count-bounded n
+counted-bounded (Some BurstFront) n x = count-bounded n
 
 tick-bounded : (l : Line) → Bounded l → Bounded (tick_of l).line
 unfolding tick_of moved_by
@@ -179,7 +179,7 @@ tick-bounded l x =
     let t : Stepped = step_of l.pulse l.phases l.count s.tariff s.wait in
     let b : Aged = aged_of l.pulse s.burst in
     let since : ℕ = held_more l.spacing s.since in
-    let f : Front = front_at t.slot (is_due b.burst && (leb l.spacing since && room_of l.spacing t.tariff t.wait)) in
+    let f : Option Front = front_at t.slot (is_due b.burst && (leb l.spacing since && room_of l.spacing t.tariff t.wait)) in
     record {
       spacing = x.spacing;
       serial = x.serial;

@@ -1,11 +1,11 @@
 -- A change of the tariff, of the burst or of the report period keeps the coupling.
+use Rattle.std.specs.Prelude.{None}
 use mathlib.Core.Path.{◌≡◌, refl, sym, ◌∙◌}
 use mathlib.Core.Bool.{Bool, true, false}
 use mathlib.Core.List.{List}
 use Prim.Native.Nat.{ℕ, ◌+◌, ◌-◌, max, ◌≤◌}
 use native.Mathlib.Omega.{arith}
 use lib.ListN.{length}
-use Rattle.answers.specs.declared.Front.TheVariants.{None}
 use Rattle.rules.specs.Rules.{sound_em, sound_phases}
 use Rattle.tariff.specs.Tariffs.{em_of, phased_of, rate_of}
 use Rattle.tariff.specs.declared.Phase.{Phase}

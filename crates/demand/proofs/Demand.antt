@@ -10,10 +10,10 @@ use lib.Dec.{leb}
 use Rattle.answers.specs.declared.Front.TheVariants.{Tariff as TariffFront}
 use Rattle.tariff.specs.Ranges.{within}
 use Rattle.tariff.specs.declared.Slot.{Slot}
-use Rattle.tariff.specs.declared.Slot.TheVariants.{None as NoSlot, Empty, Pulse}
+use Rattle.tariff.specs.declared.Slot.TheVariants.{Empty, Pulse}
 use Rattle.slots.specs.Slots.{slot_at}
 use Rattle.descriptor.specs.Refusals.{ruling, sound_configuration}
-use Rattle.std.specs.Prelude.{Ok, Err}
+use Rattle.std.specs.Prelude.{Ok, Err, Option, None, Some}
 use Rattle.descriptor.specs.declared.Hook.TheVariants.{Stop}
 use Rattle.ticking.specs.Rules.{front_at}
 use Rattle.line.specs.Lines.{fresh_line, make_of}
@@ -31,13 +31,13 @@ use Rattle.demand.proofs.Bound.{bound}
 use Rattle.demand.proofs.Spacing.{spacing-run}
 
 -- ---- slots
-tariff-front : (s : Slot) (may : Bool) → (front_at s may ≡ TariffFront) ↔ (s ≡ Pulse)
-tariff-front NoSlot true = (λ e. absurd (let o : ◌≡◌ {A = ℕ} 0 1 = cc in omega arith), λ e. absurd (let o : ◌≡◌ {A = ℕ} 0 1 = cc in omega arith))
-tariff-front NoSlot false = (λ e. absurd (let o : ◌≡◌ {A = ℕ} 0 1 = cc in omega arith), λ e. absurd (let o : ◌≡◌ {A = ℕ} 0 1 = cc in omega arith))
-tariff-front Empty may = (λ e. absurd (let o : ◌≡◌ {A = ℕ} 0 1 = cc in omega arith), λ e. absurd (let o : ◌≡◌ {A = ℕ} 0 1 = cc in omega arith))
-tariff-front Pulse may = (λ e. refl, λ e. refl)
+tariff-front : (s : Option Slot) (may : Bool) → (front_at s may ≡ Some TariffFront) ↔ (s ≡ Some Pulse)
+tariff-front None true = (λ e. absurd (let o : ◌≡◌ {A = ℕ} 0 1 = cc in omega arith), λ e. absurd (let o : ◌≡◌ {A = ℕ} 0 1 = cc in omega arith))
+tariff-front None false = (λ e. absurd (let o : ◌≡◌ {A = ℕ} 0 1 = cc in omega arith), λ e. absurd (let o : ◌≡◌ {A = ℕ} 0 1 = cc in omega arith))
+tariff-front (Some Empty) may = (λ e. absurd (let o : ◌≡◌ {A = ℕ} 0 1 = cc in omega arith), λ e. absurd (let o : ◌≡◌ {A = ℕ} 0 1 = cc in omega arith))
+tariff-front (Some Pulse) may = (λ e. refl, λ e. refl)
 
-slot-front : (D S : ℕ) (h : List Entry) (c : Call) (a : Answer) → Kind D S h c a → (unless_refused a (asks c)).tick ≡ true → ((told a).front ≡ TariffFront) ↔ (slot_at (running D S h) (ticks h + 1) ≡ Pulse)
+slot-front : (D S : ℕ) (h : List Entry) (c : Call) (a : Answer) → Kind D S h c a → (unless_refused a (asks c)).tick ≡ true → ((told a).front ≡ Some TariffFront) ↔ (slot_at (running D S h) (ticks h + 1) ≡ Some Pulse)
 slot-front D S h c a (to_command (Ok tt) f n) e = absurd (let o : ◌≡◌ {A = ℕ} 0 1 = cc in omega arith)
 slot-front D S h c a (to_command (Err r) f n) e = absurd (let o : ◌≡◌ {A = ℕ} 0 1 = cc in omega arith)
 slot-front D S h c a (to_ask n) e = absurd (let o : ◌≡◌ {A = ℕ} 0 1 = cc in omega arith)

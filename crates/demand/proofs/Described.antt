@@ -1,4 +1,5 @@
 -- A descriptor, with a ticket or without: what it is answered, and the line after it, by its ruling.
+use Rattle.std.specs.Prelude.{None, Some}
 use mathlib.Core.Path.{◌≡◌, refl, sym, ap, ◌∙◌}
 use mathlib.Core.Bool.{Bool}
 use mathlib.Core.Option.{Option, none, some}
@@ -29,12 +30,12 @@ change_of (descriptor t ls b) l = burst_changed b (tariff_changed t (length (pha
 
 -- the burst pulses that it cancels
 abbrev pub cancels : Reading → Line → ℕ
-cancels d l = cancelled_by (asks (describe none d)).burst l.state.burst.owed
+cancels d l = cancelled_by (asks (describe None d)).burst l.state.burst.owed
 
 abbrev pub described_by : Ruling → Reading → Line → Answered
 described_by u d l = answered_by u l (change_of d l) (cancels d l)
 
-read_is : (l : Line) (d : Reading) → read_answer l d ≡ described_by (ruling_of l (describe none d)) d l
+read_is : (l : Line) (d : Reading) → read_answer l d ≡ described_by (ruling_of l (describe None d)) d l
 unfolding describe_of ruling
 read_is l unreadable = refl
 read_is l senseless = refl
@@ -47,8 +48,8 @@ first-ruled (Err r) v d l = refl
 
 pub describe-step : (l : Line) (k : Option ℕ) (d : Reading) → step l (describe k d) ≡ answered (described_by (ruling_of l (describe k d)) d l)
 unfolding step commit_of
-describe-step l none d = ap answered (read_is l d)
-describe-step l (some ticket) d =
+describe-step l None d = ap answered (read_is l d)
+describe-step l (Some ticket) d =
     let own = reading_causes l.spacing (is_endless l.state.tariff) (is_running l.state.burst) d in
     let first = ticket_causes ticket l.serial in
     ap answered
@@ -58,8 +59,8 @@ describe-step l (some ticket) d =
 
 -- a commit that is allowed is allowed without its ticket
 pub allowed-reading : (S : ℕ) (e b : Bool) (serial : ℕ) (k : Option ℕ) (d : Reading) → ruling (causes S e b serial (describe k d)) ≡ Ok tt → ruling (reading_causes S e b d) ≡ Ok tt
-allowed-reading S e b serial none d h = h
-allowed-reading S e b serial (some ticket) d h = (none_after (ticket_causes ticket serial) (reading_causes S e b d) h).1
+allowed-reading S e b serial None d h = h
+allowed-reading S e b serial (Some ticket) d h = (none_after (ticket_causes ticket serial) (reading_causes S e b d) h).1
 
 -- and reads, and makes sense
 pub unreadable-refused : (S : ℕ) (e b : Bool) (serial : ℕ) (k : Option ℕ) → ruling (causes S e b serial (describe k unreadable)) ≡ Ok tt → ⊥

@@ -7,14 +7,14 @@ use native.Mathlib.Omega.{arith}
 use borrow.Author.Tests.{leb-false, eqb-false, ne_eqb, lt-ltb}
 use lib.Dec.{leb, ltb, eqb}
 use Rattle.answers.specs.declared.Front.{Front}
-use Rattle.answers.specs.declared.Front.TheVariants.{None, Tariff as TariffFront, Burst as BurstFront}
+use Rattle.answers.specs.declared.Front.TheVariants.{Tariff as TariffFront, Burst as BurstFront}
 use Rattle.tariff.specs.Tariffs.{room_of, is_endless}
 use Rattle.steps.specs.Steps.{step_of}
 use Rattle.tariff.specs.declared.Slot.{Slot}
-use Rattle.tariff.specs.declared.Slot.TheVariants.{None as NoSlot, Empty, Pulse}
+use Rattle.tariff.specs.declared.Slot.TheVariants.{Empty, Pulse}
 use Rattle.steps.specs.declared.Stepped.{Stepped}
 use Rattle.descriptor.specs.Names.{Ruling}
-use Rattle.std.specs.Prelude.{Ok, Err}
+use Rattle.std.specs.Prelude.{Ok, Err, None, Some}
 use Rattle.descriptor.specs.declared.TariffPart.TheVariants.{None as NoTariff, Keep as KeepTariff, Rate, Em, Phased}
 use Rattle.descriptor.specs.declared.BurstPart.{BurstPart}
 use Rattle.descriptor.specs.declared.BurstPart.TheVariants.{None as NoBurst, Keep as KeepBurst, Start}
@@ -61,8 +61,8 @@ pub data Effect (S w v m g k : ℕ) (e : Entry) (l : Line) : Type 0 where
   begins : NoTick e → front_of e ≡ None → is_fresh (granted e).tariff ≡ 1 → l.state.since ≡ w → l.state.burst ≡ burst_with (suc m) g k → Effect S w v m g k e l
   waiting : IsTick e → front_of e ≡ None → (v ≡ 1 → ⊥) → Blocked S w g k v → l.state.since ≡ min S (w + 1) → next_of l.state.tariff l.state.wait ≡ v - 1 → l.state.burst ≡ burst_with (suc m) g (min g (k + 1)) → Effect S w v m g k e l
   empty-due : IsTick e → front_of e ≡ None → v ≡ 1 → ((next_of l.state.tariff l.state.wait ≡ 0 → ⊥) → 2 * S ≤ next_of l.state.tariff l.state.wait) → l.state.since ≡ min S (w + 1) → l.state.burst ≡ burst_with (suc m) g (min g (k + 1)) → Effect S w v m g k e l
-  pulse-due : IsTick e → front_of e ≡ TariffFront → v ≡ 1 → ((next_of l.state.tariff l.state.wait ≡ 0 → ⊥) → 2 * S ≤ next_of l.state.tariff l.state.wait) → l.state.since ≡ 0 → l.state.burst ≡ burst_with (suc m) g (min g (k + 1)) → Effect S w v m g k e l
-  burst-due : IsTick e → front_of e ≡ BurstFront → l.state.since ≡ 0 → l.state.burst ≡ burst_with m g 0 → Effect S w v m g k e l
+  pulse-due : IsTick e → front_of e ≡ Some TariffFront → v ≡ 1 → ((next_of l.state.tariff l.state.wait ≡ 0 → ⊥) → 2 * S ≤ next_of l.state.tariff l.state.wait) → l.state.since ≡ 0 → l.state.burst ≡ burst_with (suc m) g (min g (k + 1)) → Effect S w v m g k e l
+  burst-due : IsTick e → front_of e ≡ Some BurstFront → l.state.since ≡ 0 → l.state.burst ≡ burst_with m g 0 → Effect S w v m g k e l
 
 -- ---- a tick
 -- why no burst pulse starts
@@ -105,7 +105,7 @@ module _ (l : Line) (cfg : Config l.pulse l.spacing) (good : Good l.spacing l.ph
     may-start = is_due u'.burst && (leb S (min S (l.state.since + 1)) && room_of S t'.tariff t'.wait)
 
     -- a tick whose burst is x one tick on, with this front or none
-    abbrev tick_with : Aged → Front → Ticked
+    abbrev tick_with : Aged → Option Front → Ticked
     tick_with x f =
         let n = count_by f l.state.counters in
         record {
@@ -122,7 +122,7 @@ module _ (l : Line) (cfg : Config l.pulse l.spacing) (good : Good l.spacing l.ph
           tick = record { tariff = t'.complete; burst = x.complete; front = f; report = n.report };
         }
 
-    abbrev front_with : Aged → Front
+    abbrev front_with : Aged → Option Front
     front_with x = front_at t'.slot (is_due x.burst && (leb S (held_more S l.state.since) && room_of S t'.tariff t'.wait))
 
     abbrev TickEffect : Ticked → Type 0
@@ -133,12 +133,12 @@ module _ (l : Line) (cfg : Config l.pulse l.spacing) (good : Good l.spacing l.ph
         blocked-by S l.state.since g k (next_of l.state.tariff l.state.wait) (next_of t'.tariff t'.wait) _ _ _ e refl refl
         (sym (room_next S l.phases l.count t'.tariff t'.wait (good-step S l.pulse l.phases l.count some fits l.state.tariff l.state.wait good))) (rw (lt-ltb 0 (suc m) (omega arith)) at h)
 
-    by : (s : Slot) (may : Bool) → may-start ≡ may → Next S (next_of l.state.tariff l.state.wait) (next_of t'.tariff t'.wait) s → TickEffect (tick_with u' (front_at s may))
+    by : (s : Option Slot) (may : Bool) → may-start ≡ may → Next S (next_of l.state.tariff l.state.wait) (next_of t'.tariff t'.wait) s → TickEffect (tick_with u' (front_at s may))
     unfolding since_front burst_after
-    by NoSlot false h (waits p q) = waiting ticking refl p (blocked h q) refl q refl
-    by NoSlot true h (waits p q) = burst-due ticking refl refl (ap (λ (x : ℕ). burst_with x g 0) (omega arith))
-    by Empty may h (empty p q) = empty-due ticking refl p q refl refl
-    by Pulse may h (pulse p q) = pulse-due ticking refl p q refl refl
+    by None false h (waits p q) = waiting ticking refl p (blocked h q) refl q refl
+    by None true h (waits p q) = burst-due ticking refl refl (ap (λ (x : ℕ). burst_with x g 0) (omega arith))
+    by (Some Empty) may h (empty p q) = empty-due ticking refl p q refl refl
+    by (Some Pulse) may h (pulse p q) = pulse-due ticking refl p q refl refl
 
     with-aged : (x : Aged) → x ≡ u' → TickEffect (tick_with x (front_with x))
     with-aged x e = rw e (by t'.slot may-start refl (next-step S l.pulse l.phases l.count some fits l.state.tariff l.state.wait good))

@@ -1,4 +1,5 @@
 -- The starred examples of the paper hold.
+use Rattle.std.specs.Prelude.{Option, Some}
 use mathlib.Core.Path.{◌≡◌, refl, ◌∙◌}
 use mathlib.Core.Bool.{cond}
 use Prim.Native.Nat.{ℕ, zero, suc, ◌+◌, ◌*◌}
@@ -10,16 +11,16 @@ use Rattle.slots.specs.Slots.{any_below, counted_slot, phase_slot}
 use Rattle.descriptor.specs.Refusals.{ruling}
 use Rattle.slots.proofs.Count.{count_below}
 use Rattle.slots.proofs.PhasePulses.{is_pulse, phase-pulses}
-use Rattle.demand.specs.Names.{Slot, NoSlot, Empty, Pulse}
+use Rattle.demand.specs.Names.{Slot, None, Empty, Pulse}
 use Rattle.demand.specs.Answers.{answer_after}
 use Rattle.demand.specs.Examples.{pulses_below, three_minutes, examples, AllStarred}
 
-one-counted : (m : ℕ) (s : Slot) → m + elim s [ NoSlot ↦ 0 | Empty ↦ 0 | Pulse ↦ 1 ] ≡ m + cond (is_pulse s) 1 0
-one-counted m NoSlot = refl
-one-counted m Empty = refl
-one-counted m Pulse = refl
+one-counted : (m : ℕ) (s : Option Slot) → m + elim s [ None ↦ 0 | Some Empty ↦ 0 | Some Pulse ↦ 1 ] ≡ m + cond (is_pulse s) 1 0
+one-counted m None = refl
+one-counted m (Some Empty) = refl
+one-counted m (Some Pulse) = refl
 
-pulses-counted : (slot : ℕ → Slot) (n : ℕ) → pulses_below slot n ≡ count_below n (λ k. is_pulse (slot k))
+pulses-counted : (slot : ℕ → Option Slot) (n : ℕ) → pulses_below slot n ≡ count_below n (λ k. is_pulse (slot k))
 unfolding pulses_below count_below
 pulses-counted slot zero = refl
 pulses-counted slot (suc n) = rw (pulses-counted slot n) (one-counted (count_below n (λ k. is_pulse (slot k))) (slot n))

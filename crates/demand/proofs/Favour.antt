@@ -1,4 +1,5 @@
 -- A descriptor that a line would accept is one that it would accept after a call that is not accepted, a tick say.
+use Rattle.std.specs.Prelude.{Option, Some}
 use mathlib.Core.Path.{◌≡◌, refl, sym}
 use mathlib.Core.Bool.{Bool, true, false, not, true≢false}
 use mathlib.Core.List.{List, [], ◌∷◌, ◌++◌}
@@ -19,7 +20,7 @@ use Rattle.burst.specs.declared.Burst.{Burst as Bursting}
 use Rattle.ticking.specs.Moves.{burst_after, moved_by}
 use Rattle.line.specs.Lines.{hook_of, period_of, no_period_of, audit_of, ask_of, tick_of, answered_by}
 use Rattle.line.specs.declared.Line.{Line}
-use Rattle.demand.specs.Names.{Front, NoFront, TariffFront, BurstFront, Phase, TariffPart, NoTariff, KeepTariff, Rate, Em, Phased, BurstPart, NoBurst, KeepBurst, Start, KeepHook, Stop, Ruling, Ok, Err, Reading, unreadable, senseless, descriptor}
+use Rattle.demand.specs.Names.{Front, None, TariffFront, BurstFront, Phase, TariffPart, NoTariff, KeepTariff, Rate, Em, Phased, BurstPart, NoBurst, KeepBurst, Start, KeepHook, Stop, Ruling, Ok, Err, Reading, unreadable, senseless, descriptor}
 use Rattle.demand.specs.Calls.{Call, describe, ask, hook, period, no_period, audit, tick, Answer}
 use Rattle.demand.specs.Serials.{is_change}
 use Rattle.demand.specs.Machine.{ruling_of, Outcome, outcome, answered, step}
@@ -78,11 +79,11 @@ endless-on : (D : ℕ) (ps : List Phase) (n : ℕ) (t : Tariff) (w : ℕ) → is
 unfolding step_of
 endless-on D ps n t w e = cases (ltb 1 w) (λ h. rw h e) (λ h. rw h (due-endless D ps n t e))
 
-burst-on : (f : Front) (b : Bursting) → is_running (burst_after f b) ≡ true → is_running b ≡ true
+burst-on : (f : Option Front) (b : Bursting) → is_running (burst_after f b) ≡ true → is_running b ≡ true
 unfolding burst_after
-burst-on NoFront b e = e
-burst-on TariffFront b e = e
-burst-on BurstFront b e = e
+burst-on None b e = e
+burst-on (Some TariffFront) b e = e
+burst-on (Some BurstFront) b e = e
 
 aged-on : (D : ℕ) (b : Bursting) → is_running (aged_of D b).burst ≡ true → is_running b ≡ true
 unfolding aged_of
@@ -90,7 +91,7 @@ aged-on D b e = cases (completes_of D b) (λ h. absurd (true≢false (sym (rw h 
 
 -- ---- each call
 abbrev pub Favours : Reading → Line → Type 0
-Favours d l = ruling_of l (describe none d) ≡ Ok tt
+Favours d l = ruling_of l (describe None d) ≡ Ok tt
 
 tick_favours : (d : Reading) (l : Line) → Favours d l → Favours d (tick_of l).line
 unfolding tick_of moved_by

@@ -1,4 +1,5 @@
 -- The report period is kept up with, however it was shortened: no front leaves pcslr at or above it.
+use Rattle.std.specs.Prelude.{Option, Some}
 use mathlib.Core.Path.{◌≡◌}
 use mathlib.Core.Bool.{true, false, cond}
 use mathlib.Core.List.{List, ◌∷◌, ◌++◌}
@@ -10,7 +11,7 @@ use lib.Dec.{leb}
 use Rattle.answers.specs.Fronts.{if_front, is_front}
 use Rattle.descriptor.specs.Refusals.{sound_configuration}
 use Rattle.state.specs.Rules.{one_more, report_due}
-use Rattle.demand.specs.Names.{Front, NoFront, TariffFront, BurstFront, Ok, Err}
+use Rattle.demand.specs.Names.{Front, None, TariffFront, BurstFront, Ok, Err}
 use Rattle.demand.specs.Calls.{Call, Answer, Entry, asks}
 use Rattle.demand.specs.History.{unless_refused, told, front_of, ticks, zeroed_by, since_report, period_in}
 use Rattle.demand.specs.Answers.{tick_after}
@@ -26,10 +27,10 @@ top-reports rp set small = rw (lt-ltb 0 rp set, le-leb rp 4294967295 small)
 left_below : (rp n : ℕ) → 0 < rp → cond (report_due rp n) 0 n < rp
 left_below rp n set = rw (lt-ltb 0 rp set) (cases (leb rp n) (λ e. rw e set) (λ e. rw e (leb-false rp n e)))
 
-front_below : (f : Front) (rp n m : ℕ) → is_front f ≡ 1 → 0 < rp → cond (if_front f (report_due rp n) false) 0 (if_front f n m) < rp
-front_below NoFront rp n m f set = absurd (omega arith)
-front_below TariffFront rp n m f set = left_below rp n set
-front_below BurstFront rp n m f set = left_below rp n set
+front_below : (f : Option Front) (rp n m : ℕ) → is_front f ≡ 1 → 0 < rp → cond (if_front f (report_due rp n) false) 0 (if_front f n m) < rp
+front_below None rp n m f set = absurd (omega arith)
+front_below (Some TariffFront) rp n m f set = left_below rp n set
+front_below (Some BurstFront) rp n m f set = left_below rp n set
 
 module _ (D S : ℕ) (h : List Entry) where
   kind-below : (c : Call) (a : Answer) → Kind D S h c a → is_front (told a).front ≡ 1 → 0 < period_in h →

@@ -11,7 +11,7 @@ use Rattle.phase_lists.specs.Lists.{phases_of}
 use Rattle.phase_lists.specs.Tables.{no_phases}
 use Rattle.descriptor.specs.Refusals.{ruling}
 use Rattle.descriptor.specs.Names.{Ruling}
-use Rattle.std.specs.Prelude.{Ok, Err}
+use Rattle.std.specs.Prelude.{Ok, Err, Some}
 use Rattle.descriptor.specs.declared.TariffPart.TheVariants.{None as NoTariff}
 use Rattle.descriptor.specs.declared.BurstPart.TheVariants.{None as NoBurst}
 use Rattle.descriptor.specs.declared.Hook.TheVariants.{Keep, Stop}
@@ -79,7 +79,7 @@ module _ (D S clock : ℕ) (cfg : Config D S) where
     described-right k d = rw (describe-step l k d, rulings_agree h x s (describe k d)) (describe-right k d (ruling_after D S h (describe k d)) refl)
 
     -- asking tells what a commit with the serial would be answered
-    ask-right : (d : Reading) (n : ℕ) → n ≡ serial_in h → {a : Answer} → a ≡ answer_after D S h (describe (some n) d) → asked a n ≡ answer_after D S h (ask d)
+    ask-right : (d : Reading) (n : ℕ) → n ≡ serial_in h → {a : Answer} → a ≡ answer_after D S h (describe (Some n) d) → asked a n ≡ answer_after D S h (ask d)
     unfolding answer_after
     ask-right d n e p = rw (p, e)
 
@@ -91,7 +91,7 @@ module _ (D S clock : ℕ) (cfg : Config D S) where
     pub step_right : (c : Call) → Right h c (step l c)
     unfolding step ask_of hook_of period_of no_period_of audit_of answer_after ruling ticks last_front burst_in running fronts_since_em since_report period_in tariff_changed burst_changed
     step_right (describe k d) = described-right k d
-    step_right (ask d) = (ask-right d l.serial s (described-right (some l.serial) d).0, x)
+    step_right (ask d) = (ask-right d l.serial s (described-right (Some l.serial) d).0, x)
     step_right (hook Keep) = (refl, serial-at D S clock _ x)
     step_right (hook Stop) = (ap accepted (owed-agrees h x), serial-at D S clock _ (burst-at D S clock cfg true NoBurst tt (tariff-at D S clock cfg NoTariff [] tt x)))
     step_right (period n) = rw (rulings_agree h x s (period n)) (period-right n (ruling_after D S h (period n)) refl)

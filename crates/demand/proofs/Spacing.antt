@@ -7,12 +7,12 @@ use native.Mathlib.Omega.{arith}
 use borrow.Author.Tests.{leb-true, le-leb}
 use Rattle.answers.specs.Fronts.{if_front, is_front}
 use Rattle.answers.specs.declared.Front.{Front}
-use Rattle.answers.specs.declared.Front.TheVariants.{None, Tariff as TariffFront, Burst as BurstFront}
+use Rattle.answers.specs.declared.Front.TheVariants.{Tariff as TariffFront, Burst as BurstFront}
 use Rattle.steps.specs.Steps.{step_of}
 use Rattle.tariff.specs.declared.Slot.{Slot}
-use Rattle.tariff.specs.declared.Slot.TheVariants.{None as NoSlot, Empty, Pulse}
+use Rattle.tariff.specs.declared.Slot.TheVariants.{Empty, Pulse}
 use Rattle.slots.specs.Slots.{slot_at}
-use Rattle.std.specs.Prelude.{Ok, Err}
+use Rattle.std.specs.Prelude.{Ok, Err, Option, None, Some}
 use Rattle.ticking.specs.Rules.{front_at}
 use Rattle.line.specs.declared.Line.{Line}
 use Rattle.demand.specs.Calls.{Call, Answer, Entry, Asked, asks}
@@ -29,14 +29,14 @@ use Rattle.demand.proofs.AnswerKinds.{Kind, to_command, to_ask, to_audit, to_tic
 use Rattle.demand.proofs.Run.{Run, more, coupled, answer-right}
 
 -- a slot due now was 1 tick away
-pulse-next : {S v v' : ℕ} (s : Slot) → s ≡ Pulse → Next S v v' s → v ≡ 1
+pulse-next : {S v v' : ℕ} (s : Option Slot) → s ≡ Some Pulse → Next S v v' s → v ≡ 1
 pulse-next s e (waits p q) = absurd (let o : ◌≡◌ {A = ℕ} 0 1 = cc in omega arith)
 pulse-next s e (empty p q) = absurd (let o : ◌≡◌ {A = ℕ} 0 1 = cc in omega arith)
 pulse-next s e (pulse p q) = p
 
 module _ (D S clock : ℕ) (cfg : Config D S) where
   -- a tariff pulse begins S ticks after the last front or later
-  slot-passed : (h : List Entry) {l : Line} → Coupled D S clock h l → slot_at (running D S h) (ticks h + 1) ≡ Pulse → passed S (last_front h) (ticks h + 1) ≡ true
+  slot-passed : (h : List Entry) {l : Line} → Coupled D S clock h l → slot_at (running D S h) (ticks h + 1) ≡ Some Pulse → passed S (last_front h) (ticks h + 1) ≡ true
   slot-passed h (line_at {w = w} {t = t} {ps = ps} {n = n} e before a g x y) s =
       let fits : Waits D = record { some = omega arith; most = omega arith } in
       let due = pulse-next (step_of D ps n t w).slot (sym (agree-now S D ps n (omega arith) fits (running D S h) t w (ticks h) g a) ∙ s) (next-step S D ps n (omega arith) fits t w g) in
@@ -44,13 +44,13 @@ module _ (D S clock : ℕ) (cfg : Config D S) where
       let more = held_more_lem S (ticks h) (last_front h) before in
       sym (held-passed S (ticks h + 1) (last_front h) (before_more (last_front h) (ticks h) before)) ∙ le-leb S (held_since S (last_front h) (ticks h + 1)) (omega arith)
 
-  due-passed : (h : List Entry) {l : Line} → Coupled D S clock h l → (s : Slot) (may : Bool) → slot_at (running D S h) (ticks h + 1) ≡ s → burst_may_start D S h (ticks h + 1) ≡ may → is_front (front_at s may) ≡ 1 →
+  due-passed : (h : List Entry) {l : Line} → Coupled D S clock h l → (s : Option Slot) (may : Bool) → slot_at (running D S h) (ticks h + 1) ≡ s → burst_may_start D S h (ticks h + 1) ≡ may → is_front (front_at s may) ≡ 1 →
       passed S (last_front h) (ticks h + 1) ≡ true
-  due-passed h x NoSlot true e m f =
+  due-passed h x None true e m f =
       ((and-eq-true_iff (passed S (last_front h) (ticks h + 1)) _).0 ((and-eq-true_iff (burst_ready S (burst_in h) (ticks h + 1)) _).0 m).1).0
-  due-passed h x NoSlot false e m f = absurd (omega arith)
-  due-passed h x Empty may e m f = absurd (omega arith)
-  due-passed h x Pulse may e m f = slot-passed h x e
+  due-passed h x None false e m f = absurd (omega arith)
+  due-passed h x (Some Empty) may e m f = absurd (omega arith)
+  due-passed h x (Some Pulse) may e m f = slot-passed h x e
 
   module _ (small : clock < 2 ^ 32) where
     front-passed : (h : List Entry) {l : Line} → Coupled D S clock h l → (c : Call) (a : Answer) → Kind D S h c a → is_front (told a).front ≡ 1 →
@@ -66,19 +66,19 @@ module _ (D S clock : ℕ) (cfg : Config D S) where
     unfolding last_front ticks
     last-from [] before e f = (ticks before + 1, front-last (front_of e) f, omega arith)
       where
-        front-last : (x : Front) → is_front x ≡ 1 → if_front x (at (ticks before + 1)) (last_front before) ≡ at (ticks before + 1)
+        front-last : (x : Option Front) → is_front x ≡ 1 → if_front x (at (ticks before + 1)) (last_front before) ≡ at (ticks before + 1)
         front-last None g = absurd (omega arith)
-        front-last TariffFront g = refl
-        front-last BurstFront g = refl
+        front-last (Some TariffFront) g = refl
+        front-last (Some BurstFront) g = refl
     last-from (x ∷ between) before e f = by (front_of x) (last-from between before e f)
       where
         later : ticks before + 1 ≤ ticks (between ++ (e ∷ before)) + 1
         later = omega (arith, ticks_append between (e ∷ before), ticks-least (granted e).tick (ticks before))
 
-        by : (y : Front) → (u : ℕ) × (last_front (between ++ (e ∷ before)) ≡ at u) × (ticks before + 1 ≤ u) → (u : ℕ) × (if_front y (at (ticks (between ++ (e ∷ before)) + 1)) (last_front (between ++ (e ∷ before))) ≡ at u) × (ticks before + 1 ≤ u)
+        by : (y : Option Front) → (u : ℕ) × (last_front (between ++ (e ∷ before)) ≡ at u) × (ticks before + 1 ≤ u) → (u : ℕ) × (if_front y (at (ticks (between ++ (e ∷ before)) + 1)) (last_front (between ++ (e ∷ before))) ≡ at u) × (ticks before + 1 ≤ u)
         by None (u, p, q) = (u, p, q)
-        by TariffFront p = (ticks (between ++ (e ∷ before)) + 1, refl, later)
-        by BurstFront p = (ticks (between ++ (e ∷ before)) + 1, refl, later)
+        by (Some TariffFront) p = (ticks (between ++ (e ∷ before)) + 1, refl, later)
+        by (Some BurstFront) p = (ticks (between ++ (e ∷ before)) + 1, refl, later)
 
     at-passed : (S u now : ℕ) (last : Last) → last ≡ at u → passed S last now ≡ true → u + S ≤ now
     at-passed S u now last e p = leb-true (u + S) now (rw e at p)

@@ -7,11 +7,10 @@ use native.Mathlib.Omega.{arith}
 use borrow.Author.Tests.{ltb-true, ltb-false}
 use lib.Dec.{ltb}
 use Rattle.answers.specs.Fronts.{if_burst, is_burst_front}
-use Rattle.answers.specs.declared.Front.TheVariants.{None}
 use Rattle.tariff.specs.declared.Slot.{Slot}
-use Rattle.tariff.specs.declared.Slot.TheVariants.{None as NoSlot, Empty, Pulse}
+use Rattle.tariff.specs.declared.Slot.TheVariants.{Empty, Pulse}
 use Rattle.slots.specs.Slots.{slot_at, runs_endless}
-use Rattle.std.specs.Prelude.{Ok, Err}
+use Rattle.std.specs.Prelude.{Ok, Err, Option, None, Some}
 use Rattle.descriptor.specs.declared.BurstPart.{BurstPart}
 use Rattle.descriptor.specs.declared.BurstPart.TheVariants.{None as NoBurst, Keep as KeepBurst, Start}
 use Rattle.descriptor.specs.declared.Hook.TheVariants.{Keep, Stop}
@@ -79,11 +78,11 @@ module _ (D S : ℕ) (h : List Entry) (k : ℕ) (on : Bool) where
   part_owes KeepBurst start = omega arith
   part_owes (Start n P) start = let z = start n P refl in omega arith
 
-  front_owes : (s : Slot) (may : Bool) (b : Started) → (may ≡ true → burst_ready S b (ticks h + 1) ≡ true) → owed_of b ≡ is_burst_front (front_at s may) + owed_of (if_burst (front_at s may) (one_begun (ticks h + 1) b) b)
-  front_owes NoSlot true b r = begun_owes S (ticks h + 1) b (r refl)
-  front_owes NoSlot false b r = omega arith
-  front_owes Empty may b r = omega arith
-  front_owes Pulse may b r = omega arith
+  front_owes : (s : Option Slot) (may : Bool) (b : Started) → (may ≡ true → burst_ready S b (ticks h + 1) ≡ true) → owed_of b ≡ is_burst_front (front_at s may) + owed_of (if_burst (front_at s may) (one_begun (ticks h + 1) b) b)
+  front_owes None true b r = begun_owes S (ticks h + 1) b (r refl)
+  front_owes None false b r = omega arith
+  front_owes (Some Empty) may b r = omega arith
+  front_owes (Some Pulse) may b r = omega arith
 
   balanced : (c : Call) (a : Answer) → Kind D S h c a → Balanced (record { call = c; answer = a; clock = k; on = on }) (ticks h + 1) (burst_in h)
   balanced c a (to_command (Ok tt) e s) = part_owes (asks c).burst (λ n P f. start_owes c n P e f)

@@ -1,4 +1,5 @@
 -- Ask first, commit later: what asking and committing answer after every list of calls, and when a ticket still holds.
+use Rattle.std.specs.Prelude.{None, Some}
 use mathlib.Core.Path.{◌≡◌, refl, sym, ap, ◌∙◌}
 use mathlib.Core.Bool.{Bool, true, false, cond, not, and-eq-true_iff, true≢false}
 use mathlib.Core.List.{List, [], ◌∷◌, ◌++◌}
@@ -33,11 +34,11 @@ by-ticket false top u k = refl
 
 module _ (D S : ℕ) (h : List Entry) (d : Reading) where
   abbrev gets : Answer
-  gets = answer_after D S h (describe none d)
+  gets = answer_after D S h (describe None d)
 
-  commit-answer : (n : ℕ) → answer_after D S h (describe (some n) d) ≡ cond (eqb n (serial_in h)) (unless_top (serial_in h) gets) (refused 16)
+  commit-answer : (n : ℕ) → answer_after D S h (describe (Some n) d) ≡ cond (eqb n (serial_in h)) (unless_top (serial_in h) gets) (refused 16)
   unfolding answer_after ruling
-  commit-answer n = by-ticket (eqb n (serial_in h)) (eqb (serial_in h) 4294967295) (ruling_after D S h (describe none d)) (cancelled_by (asks (describe none d)).burst (owed h))
+  commit-answer n = by-ticket (eqb n (serial_in h)) (eqb (serial_in h) 4294967295) (ruling_after D S h (describe None d)) (cancelled_by (asks (describe None d)).burst (owed h))
 
   -- asking is committing with the serial
   ask-answer : answer_after D S h (ask d) ≡ asked (unless_top (serial_in h) gets) (serial_in h)
@@ -55,17 +56,17 @@ module _ (D S : ℕ) (h : List Entry) (d : Reading) where
   below_top true a j e = absurd (let o : ◌≡◌ {A = ℕ} 0 1 = cc in omega arith)
   below_top false a j e = (refl, e)
 
-  gets-allowed : (j : ℕ) → gets ≡ accepted j → ruling_after D S h (describe none d) ≡ Ok tt
+  gets-allowed : (j : ℕ) → gets ≡ accepted j → ruling_after D S h (describe None d) ≡ Ok tt
   unfolding answer_after
-  gets-allowed j e = allowed-by (ruling_after D S h (describe none d)) _ j e
+  gets-allowed j e = allowed-by (ruling_after D S h (describe None d)) _ j e
 
-  allowed-gets : ruling_after D S h (describe none d) ≡ Ok tt → (j : ℕ) × (gets ≡ accepted j)
+  allowed-gets : ruling_after D S h (describe None d) ≡ Ok tt → (j : ℕ) × (gets ≡ accepted j)
   unfolding answer_after
-  allowed-gets e = (cancelled_by (asks (describe none d)).burst (owed h), sym (ruled D S h (describe none d) e))
+  allowed-gets e = (cancelled_by (asks (describe None d)).burst (owed h), sym (ruled D S h (describe None d) e))
 
 -- a commit with the right ticket, below the top, gets what the descriptor gets
 commit-gets : (D S : ℕ) (h : List Entry) (d : Reading) (n : ℕ) → n ≡ serial_in h → eqb (serial_in h) 4294967295 ≡ false →
-    answer_after D S h (describe (some n) d) ≡ answer_after D S h (describe none d)
+    answer_after D S h (describe (Some n) d) ≡ answer_after D S h (describe None d)
 commit-gets D S h d n same low = commit-answer D S h d n ∙ rw (eq-eqb n (serial_in h) same, low)
 
 -- what an ask's answer holds
@@ -76,14 +77,14 @@ asked-parts v w m n e = (cc, cc)
 module _ (D S clock : ℕ) (cfg : Config D S) (small : clock < 2 ^ 32) where
   -- the entries in between, none of them accepted, leave what the line would accept
   between_keeps : {l : Line} (d : Reading) (between h : List Entry) → Run D S clock cfg (between ++ h) l → changes between ≡ 0 →
-      ruling_after D S h (describe none d) ≡ Ok tt → ruling_after D S (between ++ h) (describe none d) ≡ Ok tt
+      ruling_after D S h (describe None d) ≡ Ok tt → ruling_after D S (between ++ h) (describe None d) ≡ Ok tt
   unfolding sum
   between_keeps d [] h r z e = e
   between_keeps d (x ∷ between) h (more {l = l} {l' = l'} {c = c} {a = a} r q) z e =
       let before = between_keeps d between h r (omega arith) e in
-      let here = rulings_agree D S clock cfg (between ++ h) (coupled D S clock cfg small r) (serial-is D S clock cfg r) (describe none d) ∙ before in
+      let here = rulings_agree D S clock cfg (between ++ h) (coupled D S clock cfg small r) (serial-is D S clock cfg r) (describe None d) ∙ before in
       let there = keeps d l l' c a q (omega arith) here in
-      sym (rulings_agree D S clock cfg (x ∷ (between ++ h)) (coupled D S clock cfg small (more r q)) (serial-is D S clock cfg (more r q)) (describe none d)) ∙ there
+      sym (rulings_agree D S clock cfg (x ∷ (between ++ h)) (coupled D S clock cfg small (more r q)) (serial-is D S clock cfg (more r q)) (describe None d)) ∙ there
 
   -- ticks and audits are answered as such, so that none of them is accepted
   quiet-answer : (h : List Entry) (c : Call) → is_quiet c ≡ true → is_change (answer_after D S h c) ≡ 0
@@ -107,7 +108,7 @@ module _ (D S clock : ℕ) (cfg : Config D S) (small : clock < 2 ^ 32) where
   -- what the ask a told of the history before it
   pub record Told (a : Entry) (before : List Entry) (d : Reading) (would : Answer) (n : ℕ) : Type 0 where
     pub ticket : n ≡ serial_in before
-    pub gets : unless_top (serial_in before) (answer_after D S before (describe none d)) ≡ would
+    pub gets : unless_top (serial_in before) (answer_after D S before (describe None d)) ≡ would
     pub silent : is_change a.answer ≡ 0
 
   told-by : {l : Line} (a : Entry) (before : List Entry) (d : Reading) (would : Answer) (n : ℕ) → Run D S clock cfg (a ∷ before) l → a.call ≡ ask d → a.answer ≡ asked would n → Told a before d would n
@@ -121,10 +122,10 @@ module _ (D S clock : ℕ) (cfg : Config D S) (small : clock < 2 ^ 32) where
   unfolding sum
   serial_between a between before z = sum_append _ between (a ∷ before) ∙ omega arith
 
-  commit-right : {l : Line} (c : Entry) (h : List Entry) (d : Reading) (n : ℕ) → Run D S clock cfg (c ∷ h) l → c.call ≡ describe (some n) d → c.answer ≡ answer_after D S h (describe (some n) d)
+  commit-right : {l : Line} (c : Entry) (h : List Entry) (d : Reading) (n : ℕ) → Run D S clock cfg (c ∷ h) l → c.call ≡ describe (Some n) d → c.answer ≡ answer_after D S h (describe (Some n) d)
   commit-right c h d n r e = answer-right D S clock cfg small r ∙ ap (answer_after D S h) e
 
-  kept : {l : Line} (a c : Entry) (between before : List Entry) (d : Reading) (n k : ℕ) → Run D S clock cfg (c ∷ (between ++ (a ∷ before))) l → a.call ≡ ask d → c.call ≡ describe (some n) d →
+  kept : {l : Line} (a c : Entry) (between before : List Entry) (d : Reading) (n k : ℕ) → Run D S clock cfg (c ∷ (between ++ (a ∷ before))) l → a.call ≡ ask d → c.call ≡ describe (Some n) d →
       a.answer ≡ asked (accepted k) n → changes between ≡ 0 → (j : ℕ) × (c.answer ≡ accepted j)
   unfolding sum
   kept a c between before d n k r ca cc' e z =
@@ -138,7 +139,7 @@ module _ (D S clock : ℕ) (cfg : Config D S) (small : clock < 2 ^ 32) where
       let got = allowed-gets D S h d (between_keeps d between (a ∷ before) rh z allowed) in
       (got.0, commit-right c h d n r cc' ∙ commit-gets D S h d n (told.ticket ∙ same) (rw (← same) low.0) ∙ got.1)
 
-  staled : {l : Line} (a c : Entry) (between before : List Entry) (d : Reading) (n : ℕ) (would : Answer) → Run D S clock cfg (c ∷ (between ++ (a ∷ before))) l → a.call ≡ ask d → c.call ≡ describe (some n) d →
+  staled : {l : Line} (a c : Entry) (between before : List Entry) (d : Reading) (n : ℕ) (would : Answer) → Run D S clock cfg (c ∷ (between ++ (a ∷ before))) l → a.call ≡ ask d → c.call ≡ describe (Some n) d →
       a.answer ≡ asked would n → n < 4294967295 → 1 ≤ changes between → c.answer ≡ refused 16
   staled a c between before d n would r ca cc' e low one =
       let h = between ++ (a ∷ before) in

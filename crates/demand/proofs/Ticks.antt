@@ -1,4 +1,5 @@
 -- A tick keeps the coupling, and tells what the paper has it tell.
+use Rattle.std.specs.Prelude.{Option, None, Some}
 use mathlib.Core.Path.{◌≡◌, refl, sym, ap, ◌∙◌}
 use mathlib.Core.Bool.{Bool, true, false, cond, ◌&&◌, ◌||◌, and-eq-true_iff}
 use mathlib.Core.List.{List}
@@ -14,7 +15,7 @@ use Rattle.steps.specs.Steps.{step_of}
 use Rattle.tariff.specs.declared.Phase.{Phase}
 use Rattle.tariff.specs.declared.Tariff.{Tariff}
 use Rattle.tariff.specs.declared.Slot.{Slot}
-use Rattle.tariff.specs.declared.Slot.TheVariants.{None as NoSlot, Empty, Pulse}
+use Rattle.tariff.specs.declared.Slot.TheVariants.{Empty, Pulse}
 use Rattle.steps.specs.declared.Stepped.{Stepped}
 use Rattle.slots.specs.Slots.{Running, nothing, slot_at, completes_at, quiet_for}
 use Rattle.burst.specs.Bursts.{held_more, aged_of, is_due, begun_of}
@@ -61,11 +62,11 @@ room_says S v h z = by (eqb v 0) refl
 
 module _ (D S clock : ℕ) (cfg : Config D S) where
   -- what a tick after i others tells, by what the history says before it
-  abbrev pub tick_told : ℕ → Last → Started → Running → ℕ → ℕ → Front → Tick
+  abbrev pub tick_told : ℕ → Last → Started → Running → ℕ → ℕ → Option Front → Tick
   tick_told i last b r pcslr rp f =
       record { tariff = completes_at D r (i + 1); burst = burst_completes D b (i + 1); front = f; report = if_front f (report_due rp (one_more pcslr)) false }
 
-  abbrev pub front_due : ℕ → Last → Started → Running → Front
+  abbrev pub front_due : ℕ → Last → Started → Running → Option Front
   front_due i last b r = front_at (slot_at r (i + 1)) (burst_ready S b (i + 1) && (passed S last (i + 1) && quiet_for r (i + 1) (S - 1)))
 
   abbrev pub After : ℕ → Last → Started → Running → ℕ → ℕ → ℕ → Tick → Line → Type 0
@@ -108,10 +109,10 @@ module _ (D S clock : ℕ) (cfg : Config D S) where
         ∙ ((and-eq-true_iff (passed S last (i + 1)) _).0 ((and-eq-true_iff (burst_ready S b (i + 1)) _).0 (sym ready-is ∙ h)).1).1)
 
     -- the tick and the state after it, with this front or none
-    abbrev told : Front → Tick
+    abbrev told : Option Front → Tick
     told f = record { tariff = t'.complete; burst = u'.complete; front = f; report = (count_by f (record { cpc = cpc; pcslr = pcslr; rp = rp })).report }
 
-    abbrev line_after : Front → Line
+    abbrev line_after : Option Front → Line
     line_after f =
         record {
           pulse = D;
@@ -131,29 +132,29 @@ module _ (D S clock : ℕ) (cfg : Config D S) where
         }
 
     -- by the slot that is due and whether a burst pulse may start
-    by : (s : Slot) (may : Bool) → Next S (next_of t w) (next_of t'.tariff t'.wait) s → (may ≡ true → burst_ready S b (i + 1) ≡ true) →
+    by : (s : Option Slot) (may : Bool) → Next S (next_of t w) (next_of t'.tariff t'.wait) s → (may ≡ true → burst_ready S b (i + 1) ≡ true) →
         (may ≡ true → (next_of t'.tariff t'.wait ≡ 0 → ⊥) → S ≤ next_of t'.tariff t'.wait) →
         (told (front_at s may) ≡ tick_told i last b r pcslr rp (front_at s may)) × After i last b r cpc pcslr rp (told (front_at s may)) (line_after (front_at s may))
     unfolding count_by since_front burst_after
-    by NoSlot false (waits p q) h z =
+    by None false (waits p q) h z =
         rw (← agree-complete S D ps n some fits r t w i g a, ← (burst-aged D S cfg i b u x).0, clock-more) (
           refl,
           line_at {v = now} {w = t'.wait} {t = t'.tariff} {ps = ps} {n = n} {u = u'.burst} now-is (before_more last i before) (agree-tick S D ps n some fits r t w i g a) (good-step S D ps n some fits t w g)
               (burst-aged D S cfg i b u x).1 (λ e. let l = y (λ o. e (omega arith)) in omega arith),
         )
-    by NoSlot true (waits p q) h z =
+    by None true (waits p q) h z =
         rw (← agree-complete S D ps n some fits r t w i g a, ← (burst-aged D S cfg i b u x).0, clock-more, count-is cpc pcslr rp) (
           refl,
           line_at {v = 0} {w = t'.wait} {t = t'.tariff} {ps = ps} {n = n} {u = begun_of u'.burst} (omega arith) (omega arith) (agree-tick S D ps n some fits r t w i g a) (good-step S D ps n some fits t w g)
               (burst-begun D S cfg (i + 1) b u'.burst (burst-aged D S cfg i b u x).1 (h refl)) (λ e. let l = z refl e in omega arith),
         )
-    by Empty may (empty p q) h z =
+    by (Some Empty) may (empty p q) h z =
         rw (← agree-complete S D ps n some fits r t w i g a, ← (burst-aged D S cfg i b u x).0, clock-more) (
           refl,
           line_at {v = now} {w = t'.wait} {t = t'.tariff} {ps = ps} {n = n} {u = u'.burst} now-is (before_more last i before) (agree-tick S D ps n some fits r t w i g a) (good-step S D ps n some fits t w g)
               (burst-aged D S cfg i b u x).1 (λ e. let l = q e in omega arith),
         )
-    by Pulse may (pulse p q) h z =
+    by (Some Pulse) may (pulse p q) h z =
         rw (← agree-complete S D ps n some fits r t w i g a, ← (burst-aged D S cfg i b u x).0, clock-more, count-is cpc pcslr rp) (
           refl,
           line_at {v = 0} {w = t'.wait} {t = t'.tariff} {ps = ps} {n = n} {u = u'.burst} (omega arith) (omega arith) (agree-tick S D ps n some fits r t w i g a) (good-step S D ps n some fits t w g)

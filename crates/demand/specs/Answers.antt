@@ -1,6 +1,6 @@
 -- What the paper has each call answer, after a history.
 use Rattle.std.specs.Prelude.{Bool, false, ◌&&◌, List, ℕ, ◌+◌, ◌-◌, min}
-use Rattle.std.proofs.Math.Option.{some}
+use Rattle.std.specs.Prelude.{Some}
 use Rattle.demand.specs.Names.{Tick, Ruling, Ok, Err, cancelled_by, if_front, ruling, refusal_number}
 use Rattle.demand.specs.Names.{one_more, report_due, front_at, slot_at, quiet_for, completes_at, runs_endless}
 use Rattle.demand.specs.Calls.{Call, describe, ask, hook, period, no_period, audit, tick, asks, causes}
@@ -40,7 +40,7 @@ module _ (D S : ℕ) (h : List Entry) where
   -- asking answers what a commit with the serial would be answered, and the serial
   unfoldable pub answer_after : Call → Answer
   answer_after (describe ticket d) = command_answer (describe ticket d)
-  answer_after (ask d) = asked (command_answer (describe (some (serial_in h)) d)) (serial_in h)
+  answer_after (ask d) = asked (command_answer (describe (Some (serial_in h)) d)) (serial_in h)
   answer_after (hook event) = command_answer (hook event)
   answer_after (period rp) = command_answer (period rp)
   answer_after no_period = command_answer no_period

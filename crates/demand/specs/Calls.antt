@@ -1,6 +1,6 @@
 -- The calls on a line, the record of a call, and of each call what it asks and what it may be refused for.
 use Rattle.std.specs.Prelude.{Bool, true, false, List, [], ◌∷◌, ◌++◌, ℕ}
-use Rattle.std.proofs.Math.Option.{Option, none, some}
+use Rattle.std.specs.Prelude.{Option, None, Some}
 use Rattle.demand.specs.Names.{Tick, Phase, TariffPart, NoTariff, KeepTariff, BurstPart, NoBurst, KeepBurst}
 use Rattle.demand.specs.Names.{Hook, KeepHook, Stop, Cause, cause, descriptor_causes, period_causes, ticket_causes}
 use Rattle.demand.specs.Names.{Reading, unreadable, senseless, descriptor, phases_of, Grammar, Content}
@@ -68,8 +68,8 @@ module _ (S : ℕ) (endless_runs burst_runs : Bool) where
 
   -- what a call may be refused for, by the line's serial; a commit's own causes stand before those of its descriptor
   abbrev pub causes : ℕ → Call → List Cause
-  causes serial (describe none d) = reading_causes d
-  causes serial (describe (some ticket) d) = ticket_causes ticket serial ++ reading_causes d
+  causes serial (describe None d) = reading_causes d
+  causes serial (describe (Some ticket) d) = ticket_causes ticket serial ++ reading_causes d
   causes serial (ask d) = []
   causes serial (hook event) = []
   causes serial (period rp) = period_causes rp

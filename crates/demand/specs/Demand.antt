@@ -1,5 +1,5 @@
 -- Demand 3: one claim about the history of every list of calls.
-use Rattle.std.specs.Prelude.{◌≡◌, true, cond, ◌↔◌, List, [], ◌∷◌, ◌++◌, ℕ, ◌+◌, ◌-◌, ◌*◌, ◌%◌, ◌^◌, min, max, ◌≤◌, ltb}
+use Rattle.std.specs.Prelude.{◌≡◌, true, cond, ◌↔◌, List, [], ◌∷◌, ◌++◌, ℕ, ◌+◌, ◌-◌, ◌*◌, ◌%◌, ◌^◌, min, max, ◌≤◌, ltb, Some}
 use Rattle.demand.specs.Names.{TariffFront, BurstFront, Pulse, Stop, NoBurst, KeepBurst, Start}
 use Rattle.demand.specs.Names.{TariffPart, NoTariff, KeepTariff, Rate, Em, Phased, is_front, slot_at}
 use Rattle.demand.specs.Calls.{Call, hook, audit, Answer, accepted, counters, Entry}
@@ -32,7 +32,7 @@ deadline S n P R = (2 * n + 1) * S + (n - 1) * max P S + R * (2 * S)
 -- the burst's last pulse, its n-th, begins within k ticks
 abbrev pub LastBegins : ℕ → ℕ → List Entry → Type 0
 LastBegins n k rest =
-    (after until : List Entry) × (e : Entry) × (rest ≡ after ++ (e ∷ until)) × (front_of e ≡ BurstFront) ×
+    (after until : List Entry) × (e : Entry) × (rest ≡ after ++ (e ∷ until)) × (front_of e ≡ Some BurstFront) ×
     (begun until + 1 ≡ n) × (ticks (e ∷ until) ≤ k)
 
 -- a list of calls on a line of pulse length D and gap G
@@ -65,7 +65,7 @@ module _ (D G clock : ℕ) (cs : List Call) where
         deadline S n P (fresh_before n rest) ≤ ticks rest → LastBegins n (deadline S n P (fresh_before n rest)) rest
     -- a tariff pulse begins at a tick exactly when what runs has a pulse slot there
     pub slots : (after before : List Entry) (e : Entry) → h ≡ after ++ (e ∷ before) → (granted e).tick ≡ true →
-        (front_of e ≡ TariffFront) ↔ (slot_at (running D S before) (ticks before + 1) ≡ Pulse)
+        (front_of e ≡ Some TariffFront) ↔ (slot_at (running D S before) (ticks before + 1) ≡ Some Pulse)
     -- any two fronts are at least S apart
     pub spacing : (after between before : List Entry) (f e : Entry) → h ≡ after ++ (f ∷ (between ++ (e ∷ before))) →
         is_front (front_of f) ≡ 1 → is_front (front_of e) ≡ 1 → S ≤ ticks (f ∷ between)

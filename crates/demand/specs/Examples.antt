@@ -1,22 +1,22 @@
 -- The starred examples of the paper, together in one list, and what each says of the definitions.
-use Rattle.std.specs.Prelude.{◌≡◌, cond, List, [], ◌∷◌, ◌++◌, map, ℕ, zero, suc, ◌+◌, ◌*◌}
+use Rattle.std.specs.Prelude.{◌≡◌, cond, List, [], ◌∷◌, ◌++◌, map, ℕ, zero, suc, ◌+◌, ◌*◌, Option, Some}
 use Rattle.pulse_map.specs.Examples.{Example, starred, Holds}
 use Rattle.slots.specs.Slots.{no_slot, counted_slot, phase_slot}
 use Rattle.phase_lists.specs.Lists.{no_lists}
-use Rattle.demand.specs.Names.{Phase, Slot, NoSlot, Empty, Pulse, Em, KeepBurst}
+use Rattle.demand.specs.Names.{Phase, Slot, None, Empty, Pulse, Em, KeepBurst}
 use Rattle.demand.specs.Calls.{Answer, accepted, refused}
 use Rattle.demand.specs.Machine.{parts}
 use Rattle.demand.specs.Answers.{answer_after}
 
 -- the ticks below n at which a tariff has a slot, counted from its origin
-abbrev pub slots_below : (ℕ → Slot) → ℕ → List ℕ
+abbrev pub slots_below : (ℕ → Option Slot) → ℕ → List ℕ
 slots_below slot zero = []
 slots_below slot (suc n) = slots_below slot n ++ cond (no_slot (slot n)) [] (n ∷ [])
 
 -- how many of them have a pulse
-unfoldable pub pulses_below : (ℕ → Slot) → ℕ → ℕ
+unfoldable pub pulses_below : (ℕ → Option Slot) → ℕ → ℕ
 pulses_below slot zero = 0
-pulses_below slot (suc n) = pulses_below slot n + elim (slot n) [ NoSlot ↦ 0 | Empty ↦ 0 | Pulse ↦ 1 ]
+pulses_below slot (suc n) = pulses_below slot n + elim (slot n) [ None ↦ 0 | Some Empty ↦ 0 | Some Pulse ↦ 1 ]
 
 -- an example, as the paper writes it
 pub data Starred : Type 0 where

@@ -1,5 +1,5 @@
 -- What a history says of the line: read from its calls and answers alone. A history is held newest first.
-use Rattle.std.specs.Prelude.{Bool, true, false, cond, ◌&&◌, ◌||◌, List, [], ◌∷◌, ℕ, ◌+◌, ◌-◌, max, leb, ltb, eqb}
+use Rattle.std.specs.Prelude.{Bool, true, false, cond, ◌&&◌, ◌||◌, List, [], ◌∷◌, ℕ, ◌+◌, ◌-◌, max, leb, ltb, eqb, Option}
 use Rattle.slots.specs.Slots.{Running, nothing, phased, em_at, rated, completes_at}
 use Rattle.demand.specs.Names.{Front, Tick, Phase, TariffPart, NoTariff, KeepTariff, Rate, Em, Phased, one_more}
 use Rattle.demand.specs.Names.{BurstPart, NoBurst, KeepBurst, Start, silent, if_front, if_burst, is_burst_front}
@@ -19,7 +19,7 @@ abbrev pub told : Answer → Tick
 told a = elim a [ accepted k ↦ silent | refused n ↦ silent | asked w n ↦ silent | counters m n ↦ silent | ticked t ↦ t ]
 
 -- a front is a tick's answer that a tariff pulse or a burst pulse begins
-abbrev pub front_of : Entry → Front
+abbrev pub front_of : Entry → Option Front
 front_of e = (told e.answer).front
 
 unfoldable pub sum : (Entry → ℕ) → List Entry → ℕ
@@ -69,7 +69,7 @@ pub data Started : Type 0 where
 abbrev pub one_begun : ℕ → Started → Started
 one_begun now b = elim b [ idle ↦ idle | started n P k last ↦ started n P (k + 1) (at now) ]
 
-abbrev pub burst_by : BurstPart → Front → ℕ → Started → Started
+abbrev pub burst_by : BurstPart → Option Front → ℕ → Started → Started
 burst_by p f now b =
     elim p [ NoBurst ↦ idle | KeepBurst ↦ if_burst f (one_begun now b) b | Start n P ↦ started n P 0 never ]
 

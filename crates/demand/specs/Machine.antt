@@ -1,6 +1,6 @@
 -- The history of a list of calls, each made on the line that the one before handed back or left.
 use Rattle.std.specs.Prelude.{List, [], ◌∷◌, ℕ, Ok, Err}
-use Rattle.std.proofs.Math.Option.{none, some}
+use Rattle.std.specs.Prelude.{None, Some}
 use Rattle.tariff.specs.Tariffs.{is_endless}
 use Rattle.descriptor.specs.Refusals.{refusal_number, ruling}
 use Rattle.burst.specs.Bursts.{is_running}
@@ -20,14 +20,14 @@ use Rattle.demand.specs.Calls.{Answer, accepted, refused, asked, counters, ticke
 
 -- a descriptor by its parts, and one as a text
 abbrev pub parts : TariffPart → Lists → BurstPart → Call
-parts t ls b = describe none (descriptor t ls b)
+parts t ls b = describe None (descriptor t ls b)
 
 abbrev pub text : List ℕ → Call
-text bytes = describe none (reading_of bytes)
+text bytes = describe None (reading_of bytes)
 
 -- a commit
 abbrev pub commit : ℕ → Reading → Call
-commit ticket d = describe (some ticket) d
+commit ticket d = describe (Some ticket) d
 
 -- the number and the value of each case of a verdict
 abbrev pub verdict_told : Verdict → Answer
@@ -51,8 +51,8 @@ abbrev pub moved : Ticked → Outcome
 moved r = outcome (ticked r.tick) r.line
 
 unfoldable pub step : Line → Call → Outcome
-step l (describe none d) = answered (read_answer l d)
-step l (describe (some ticket) d) = answered (commit_of l ticket (read_answer l d))
+step l (describe None d) = answered (read_answer l d)
+step l (describe (Some ticket) d) = answered (commit_of l ticket (read_answer l d))
 step l (ask d) = ticketed (ask_of l (read_answer l d))
 step l (hook event) = answered (hook_of l event)
 step l (period rp) = answered (period_of l rp)

@@ -1,11 +1,11 @@
 -- What calls carry and ticks tell, under names that do not clash, and the rules that the definitions beside this cite.
 pub use Rattle.answers.specs.Fronts.{silent, is_front, is_burst_front, if_front, if_burst}
 pub use Rattle.answers.specs.declared.Front.{Front}
-pub use Rattle.answers.specs.declared.Front.TheVariants.{None as NoFront, Tariff as TariffFront, Burst as BurstFront}
+pub use Rattle.answers.specs.declared.Front.TheVariants.{Tariff as TariffFront, Burst as BurstFront}
 pub use Rattle.answers.specs.declared.Tick.{Tick}
 pub use Rattle.tariff.specs.declared.Phase.{Phase}
 pub use Rattle.tariff.specs.declared.Slot.{Slot}
-pub use Rattle.tariff.specs.declared.Slot.TheVariants.{None as NoSlot, Empty, Pulse}
+pub use Rattle.tariff.specs.declared.Slot.TheVariants.{Empty, Pulse}
 pub use Rattle.descriptor.specs.declared.TariffPart.{TariffPart}
 pub use Rattle.descriptor.specs.declared.TariffPart.TheVariants.{None as NoTariff, Keep as KeepTariff}
 pub use Rattle.descriptor.specs.declared.TariffPart.TheVariants.{Rate, Em, Phased}

@@ -1,6 +1,6 @@
 -- Ask first, commit later: one claim about the history of every list of calls.
 use Rattle.std.specs.Prelude.{◌≡◌, Bool, true, false, cond, ◌&&◌, List, [], ◌∷◌, ◌++◌, ℕ, ◌+◌, ◌≤◌, ◌<◌, eqb}
-use Rattle.std.proofs.Math.Option.{none}
+use Rattle.std.specs.Prelude.{None}
 use Rattle.demand.specs.Names.{Reading}
 use Rattle.demand.specs.Calls.{Call, describe, ask, hook, period, no_period, audit, tick}
 use Rattle.demand.specs.Calls.{Answer, accepted, refused, asked, Entry}
@@ -34,7 +34,7 @@ module _ (D G clock : ℕ) (cs : List Call) where
 
   -- what the descriptor d gets after a history
   abbrev gets : List Entry → Reading → Answer
-  gets before d = answer_after D (D + G) before (describe none d)
+  gets before d = answer_after D (D + G) before (describe None d)
 
   -- the history has an ask a for d, later a commit c of d with the ticket n, and these entries between them
   pub record Committed (between : List Entry) (a c : Entry) (d : Reading) (n : ℕ) : Type 0 where

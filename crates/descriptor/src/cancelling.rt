@@ -10,10 +10,6 @@ pub fn cancelled_by(part: BurstPart, owed: u32) -> u32
 {
     match part {
         BurstPart::None => owed,
-        BurstPart::Keep => 0,
-        BurstPart::Start {
-            pulses: _,
-            interval: _,
-        } => 0,
+        BurstPart::Keep | BurstPart::Start { .. } => 0,
     }
 }

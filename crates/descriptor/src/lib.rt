@@ -7,6 +7,7 @@ mod tables;
 mod tickets;
 
 pub use cancelling::cancelled_by;
+use phase_lists::PhaseLists;
 pub use refusals::{ruling_on, sound_configuration};
 pub use tables::phases_for;
 pub use tickets::ticket_ruling;
@@ -27,6 +28,17 @@ pub enum BurstPart {
     None,
     Keep,
     Start { pulses: u32, interval: u32 },
+}
+
+// A descriptor as a controller gives it: by its parts, with the lists of a phased tariff, or as a text.
+#[derive(Clone, Copy)]
+pub enum Descriptor<'a> {
+    Parts {
+        tariff: TariffPart,
+        lists: PhaseLists<'a>,
+        burst: BurstPart,
+    },
+    Text(&'a [u8]),
 }
 
 // What an on-hook event carries.

@@ -37,14 +37,14 @@ impl Refusal {
 pub fn sound_configuration(pulse: u32, gap: u32) -> bool
     ensures { result ≡ sound_configuration pulse gap }
 {
-    ((1 <= pulse) & (pulse <= 500)) & ((1 <= gap) & (gap <= 500))
+    (1..=500).contains(&pulse) && (1..=500).contains(&gap)
 }
 
 // Whether a burst's n and P are within their ends.
 fn sound_burst(pulses: u32, interval: u32) -> bool
     ensures { result ≡ sound_burst pulses interval }
 {
-    ((1 <= pulses) & (pulses <= 65535)) & ((1 <= interval) & (interval <= 60000))
+    (1..=65535).contains(&pulses) && (1..=60000).contains(&interval)
 }
 
 // A rate needs an em with C = 0, and its interval is held to the rule of an em.
@@ -73,12 +73,10 @@ fn em_ruling(spacing: u32, count: u32, period: u32) -> Ruling
 fn phased_ruling(carry: Carry) -> Ruling
     ensures { result ≡ carried_ruling carry }
 {
-    let few = (1 <= carry.count) & (carry.count <= 8);
-    let sound = carry.sound;
-    if !few {
+    if !(1..=8).contains(&carry.count) {
         return Err(Refusal::Lists);
     }
-    if !sound {
+    if !carry.sound {
         return Err(Refusal::Phase);
     }
     Ok(())
@@ -90,8 +88,7 @@ fn tariff_ruling(spacing: u32, endless: bool, part: TariffPart, table: PhaseTabl
     ensures { result ≡ tariff_ruling spacing endless part table }
 {
     match part {
-        TariffPart::None => Ok(()),
-        TariffPart::Keep => Ok(()),
+        TariffPart::None | TariffPart::Keep => Ok(()),
         TariffPart::Rate { interval } => rate_ruling(spacing, endless, interval),
         TariffPart::Em { count, period } => em_ruling(spacing, count, period),
         TariffPart::Phased => phased_ruling(table.carry),
@@ -104,8 +101,7 @@ fn burst_ruling(running: bool, part: BurstPart) -> Ruling
     ensures { result ≡ burst_ruling running part }
 {
     match part {
-        BurstPart::None => Ok(()),
-        BurstPart::Keep => Ok(()),
+        BurstPart::None | BurstPart::Keep => Ok(()),
         BurstPart::Start { pulses, interval } => {
             if !sound_burst(pulses, interval) {
                 Err(Refusal::Burst)

@@ -1,12 +1,12 @@
 -- What a tick and a verdict tell, as tests.
-use Rattle.std.specs.Prelude.{Bool, true, false, eqb, ℕ, Ok, Err}
+use Rattle.std.specs.Prelude.{Bool, true, false, eqb, ℕ, Ok, Err, Option, None}
 use Rattle.answers.specs.declared.Front.{Front}
-use Rattle.answers.specs.declared.Front.TheVariants.{None, Tariff, Burst}
+use Rattle.answers.specs.declared.Front.TheVariants.{Tariff, Burst}
 use Rattle.descriptor.specs.Refusals.{refusal_number}
 use Rattle.line.specs.Lines.{Verdict}
 
 -- a tariff pulse begins
-abbrev pub is_tariff : Front → Bool
+abbrev pub is_tariff : Option Front → Bool
 is_tariff None = false
 is_tariff Tariff = true
 is_tariff Burst = false
