@@ -3,7 +3,7 @@ use Rattle.std.specs.Prelude.{Bool, cond, List, ℕ, ◌+◌, max, length, Resul
 use Rattle.tariff.specs.Tariffs.{em_of, phased_of, is_endless}
 use Rattle.tariff.specs.declared.Phase.{Phase}
 use Rattle.tariff.specs.declared.Tariff.TheVariants.{Idle}
-use Rattle.phase_lists.specs.Lists.{Lists, phases_of}
+use Rattle.phase_lists.specs.Lists.{Lists, phases_of, lists_in}
 use Rattle.phase_lists.specs.Tables.{no_phases, eight_of}
 use Rattle.phase_lists.specs.declared.PhaseTable.{PhaseTable}
 use Rattle.descriptor.specs.Refusals.{ruling, sound_configuration, descriptor_causes, period_causes, ticket_causes}
@@ -17,6 +17,8 @@ use Rattle.descriptor.specs.declared.BurstPart.{BurstPart}
 use Rattle.descriptor.specs.declared.BurstPart.TheVariants.{None as NoBurst, Keep as KeepBurst, Start}
 use Rattle.descriptor.specs.declared.Refusal.{Refusal}
 use Rattle.descriptor.specs.declared.Refusal.TheVariants.{Configuration, Grammar, Content}
+use Rattle.descriptor.specs.declared.Descriptor.{Descriptor}
+use Rattle.descriptor.specs.declared.Descriptor.TheVariants.{Parts, Text}
 use Rattle.descriptor.specs.declared.Hook.{Hook}
 use Rattle.descriptor.specs.declared.Hook.TheVariants.{Keep, Stop}
 use Rattle.grammar.specs.Meaning.{Reading, unreadable, senseless, descriptor, reading_of}
@@ -165,6 +167,11 @@ read_answer l (descriptor t ls b) = describe_of l t ls b
 
 unfoldable pub describe_text_of : Line → List ℕ → Answered
 describe_text_of l text = read_answer l (reading_of text)
+
+-- what a descriptor means, by its parts or as a text
+abbrev pub meant_by : Descriptor → Reading
+meant_by (Parts t ls b) = descriptor t (lists_in ls) b
+meant_by (Text text) = reading_of text.now
 
 unfoldable pub hook_of : Line → Hook → Answered
 hook_of l Keep = accepting l 0

@@ -1,55 +1,42 @@
 // Descriptors: what the table of refusals makes of one, and the line and the answer after it.
-ghost use Rattle.std.specs.Prelude.{◌≡◌, max};
+ghost use Rattle.std.specs.Prelude.{◌≡◌};
 ghost use Rattle.tariff.specs.Tariffs.{is_endless};
-ghost use Rattle.phase_lists.specs.Lists.{lists_of};
+ghost use Rattle.phase_lists.specs.Lists.{lists_in};
 ghost use Rattle.descriptor.specs.Rulings.{descriptor_ruling};
 ghost use Rattle.burst.specs.Bursts.{is_running};
-ghost use Rattle.line.specs.Lines.{with_em, with_phases, tariff_changed, burst_changed, described_by, describe_of};
+ghost use Rattle.line.specs.Lines.{with_em, with_phases, tariff_changed, burst_changed, described_by, describe_of, describe_text_of, read_answer, meant_by};
 
 use super::{Answered, Line};
 use burst::Burst;
-use descriptor::{BurstPart, Ruling, TariffPart};
-use phase_lists::PhaseTable;
+use descriptor::{BurstPart, Descriptor, Ruling, TariffPart};
+use phase_lists::{PhaseLists, PhaseTable};
 use state::Counters;
 use tariff::Tariff;
-
-// The larger of two numbers.
-fn larger(a: u32, b: u32) -> u32
-    ensures { result ≡ max a b }
-{
-    if a < b { b } else { a }
-}
 
 impl Line {
     // The line with a fresh em, which zeroes the counters.
     fn with_em(self, count: u32, period: u32) -> Line
         ensures { result ≡ with_em self count period }
     {
-        let s = self.state;
-        let old = s.counters;
         let zero = Counters {
             cpc: 0,
             pcslr: 0,
-            rp: old.rp,
+            ..self.state.counters
         };
-        self.with_state(s.with_tariff(s.origin_wait(self.spacing), Tariff::em(count, period), zero))
+        let wait = self.state.origin_wait(self.spacing);
+        self.with_state(self.state.with_tariff(wait, Tariff::em(count, period), zero))
     }
 
     // The line with a fresh phased tariff, whose phases are in the table.
     fn with_table(self, table: PhaseTable) -> Line
         ensures { result ≡ with_phases self table.carry.count table.phases }
     {
-        let s = self.state;
-        let carry = table.carry;
-        let phases = table.phases;
+        let wait = self.state.origin_wait(self.spacing);
+        let tariff = Tariff::phased(table.phases);
         Line {
-            count: carry.count,
-            state: s.with_tariff(
-                s.origin_wait(self.spacing),
-                Tariff::phased(phases),
-                s.counters,
-            ),
-            phases,
+            count: table.carry.count,
+            state: self.state.with_tariff(wait, tariff, self.state.counters),
+            phases: table.phases,
             ..self
         }
     }
@@ -59,11 +46,10 @@ impl Line {
     fn with_tariff_part(self, part: TariffPart, table: PhaseTable) -> Line
         ensures { result ≡ tariff_changed part table.carry.count table.phases self }
     {
-        let s = self.state;
         match part {
-            TariffPart::None => self.with_state(s.stopped()),
+            TariffPart::None => self.with_state(self.state.stopped()),
             TariffPart::Keep => self,
-            TariffPart::Rate { interval } => self.with_state(s.rated(interval)),
+            TariffPart::Rate { interval } => self.with_state(self.state.rated(interval)),
             TariffPart::Em { count, period } => self.with_em(count, period),
             TariffPart::Phased => self.with_table(table),
         }
@@ -74,13 +60,12 @@ impl Line {
     fn with_burst_part(self, part: BurstPart) -> Line
         ensures { result ≡ burst_changed part self }
     {
-        let s = self.state;
         match part {
-            BurstPart::None => self.with_state(s.with_burst(Burst::none())),
+            BurstPart::None => self.with_state(self.state.with_burst(Burst::none())),
             BurstPart::Keep => self,
             BurstPart::Start { pulses, interval } => {
-                let distance = larger(interval, self.spacing);
-                self.with_state(s.with_burst(Burst::start(pulses, distance)))
+                let distance = interval.max(self.spacing);
+                self.with_state(self.state.with_burst(Burst::start(pulses, distance)))
             }
         }
     }
@@ -89,11 +74,8 @@ impl Line {
     fn ruling(self, tariff: TariffPart, table: PhaseTable, burst: BurstPart) -> Ruling
         ensures { result ≡ descriptor_ruling self.spacing (is_endless self.state.tariff) (is_running self.state.burst) tariff table burst }
     {
-        let s = self.state;
-        let old_tariff = s.tariff;
-        let old_burst = s.burst;
-        let endless = old_tariff.is_endless();
-        let running = old_burst.is_running();
+        let endless = self.state.tariff.is_endless();
+        let running = self.state.burst.is_running();
         descriptor::ruling_on(self.spacing, endless, running, tariff, table, burst)
     }
 
@@ -106,36 +88,56 @@ impl Line {
     ) -> Answered
         ensures { result ≡ described_by self tariff table burst }
     {
-        let ruling = self.ruling(tariff, table, burst);
-        match ruling {
+        match self.ruling(tariff, table, burst) {
             Err(refusal) => self.refusing(refusal),
             Ok(()) => {
-                let s = self.state;
-                let old = s.burst;
-                let cancelled = descriptor::cancelled_by(burst, old.owed);
-                let rated = self.with_tariff_part(tariff, table);
-                let changed = rated.with_burst_part(burst);
+                let cancelled = descriptor::cancelled_by(burst, self.state.burst.owed);
+                let changed = self.with_tariff_part(tariff, table).with_burst_part(burst);
                 changed.accepting(cancelled)
             }
         }
     }
 
-    // A descriptor. The seven lists are those of its phases, and are looked at only where its tariff part is phased.
-    pub fn describe(
+    // A descriptor by its parts. The lists are looked at only where the tariff part is phased.
+    fn described_by_parts(
         self,
         tariff: TariffPart,
-        pri: &[u32],
-        pcx: &[u32],
-        repx: &[u32],
-        pcn: &[u32],
-        repn: &[u32],
-        ci: &[u32],
-        pd: &[u32],
+        lists: PhaseLists,
         burst: BurstPart,
     ) -> Answered
-        ensures { result ≡ describe_of self tariff (lists_of pri.now pcx.now repx.now pcn.now repn.now ci.now pd.now) burst }
+        ensures { result ≡ describe_of self tariff (lists_in lists.entry) burst }
     {
-        let table = descriptor::phases_for(self.spacing, tariff, pri, pcx, repx, pcn, repn, ci, pd);
+        let table = descriptor::phases_for(self.spacing, tariff, lists);
         self.described(tariff, table, burst)
+    }
+
+    // A descriptor as a text. It is refused where it does not read, and then where it makes no sense; else it is the
+    // descriptor that it reads as.
+    fn described_by_text(self, text: &[u8]) -> Answered
+        ensures { result ≡ describe_text_of self text.now }
+    {
+        let reading = sg::read(text);
+        match reading.ruling {
+            Err(refusal) => self.refusing(refusal),
+            Ok(()) => {
+                let phases = outcomes::phases_of(self.spacing, reading);
+                self.described(reading.tariff, phases, reading.burst)
+            }
+        }
+    }
+
+    // A descriptor, by its parts or as a text.
+    #[tactic(auto, unfolding(crate::specs::Lines::describe_text_of))]
+    pub fn describe(self, given: Descriptor) -> Answered
+        ensures { result ≡ read_answer self (meant_by given.entry) }
+    {
+        match given {
+            Descriptor::Parts {
+                tariff,
+                lists,
+                burst,
+            } => self.described_by_parts(tariff, lists, burst),
+            Descriptor::Text(text) => self.described_by_text(text),
+        }
     }
 }

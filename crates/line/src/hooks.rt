@@ -15,11 +15,8 @@ impl Line {
         match event {
             Hook::Keep => self.accepting(0),
             Hook::Stop => {
-                let state = self.state;
-                let burst = state.burst;
-                let quiet = state.stopped();
-                let stopped = self.with_state(quiet.with_burst(Burst::none()));
-                stopped.accepting(burst.owed)
+                let stopped = self.state.stopped().with_burst(Burst::none());
+                self.with_state(stopped).accepting(self.state.burst.owed)
             }
         }
     }

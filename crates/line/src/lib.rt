@@ -8,7 +8,6 @@ mod descriptors;
 mod hooks;
 mod making;
 mod reports;
-mod text;
 mod tickets;
 mod ticks;
 
@@ -72,7 +71,7 @@ impl Line {
     {
         Answered {
             line: Line {
-                serial: state::one_more(self.serial),
+                serial: self.serial.saturating_add(1),
                 ..self
             },
             verdict: Ok(cancelled),

@@ -6,15 +6,13 @@ use super::{Answered, Line};
 use burst::Burst;
 use descriptor::Refusal;
 use state::{Counters, State};
-use tariff::Tariff;
+use tariff::{Phase, Tariff};
 
 impl Line {
     // No tariff, burst or report period, and counters and serial 0.
     fn idle(pulse: u32, spacing: u32, clock: u32, since: u32) -> Line
         ensures { result ≡ idle_line pulse spacing clock since }
     {
-        let none = phase_lists::no_table();
-        let phases = none.phases;
         Line {
             pulse,
             spacing,
@@ -26,13 +24,9 @@ impl Line {
                 since,
                 tariff: Tariff::Idle,
                 burst: Burst::none(),
-                counters: Counters {
-                    cpc: 0,
-                    pcslr: 0,
-                    rp: 0,
-                },
+                counters: Counters::default(),
             },
-            phases,
+            phases: [Phase::default(); 8],
         }
     }
 

@@ -32,12 +32,10 @@ impl Line {
     pub fn audit(self) -> Audited
         ensures { result ≡ audit_of self }
     {
-        let s = self.state;
-        let n = s.counters;
         Audited {
             line: self,
-            cpc: n.cpc,
-            pcslr: n.pcslr,
+            cpc: self.state.counters.cpc,
+            pcslr: self.state.counters.pcslr,
         }
     }
 }

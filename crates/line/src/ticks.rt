@@ -10,9 +10,7 @@ impl Line {
     pub fn moved(self) -> Moved
         ensures { result ≡ move_of self }
     {
-        let state = self.state;
-        let phases = self.phases;
-        ticking::moved(self.pulse, self.spacing, phases, self.count, state)
+        ticking::moved(self.pulse, self.spacing, self.phases, self.count, self.state)
     }
 
     // One tick.
@@ -20,12 +18,10 @@ impl Line {
     pub fn tick(self) -> Ticked
         ensures { result ≡ tick_of self }
     {
-        let m = self.moved();
-        let state = m.state;
-        let tick = m.tick;
+        let moved = self.moved();
         Ticked {
-            line: self.with_state(state),
-            tick,
+            line: self.with_state(moved.state),
+            tick: moved.tick,
         }
     }
 
@@ -34,7 +30,6 @@ impl Line {
     pub fn is_on(self) -> bool
         ensures { result ≡ on_of self }
     {
-        let s = self.state;
-        s.since < self.pulse
+        self.state.since < self.pulse
     }
 }

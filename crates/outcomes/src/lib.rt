@@ -9,7 +9,7 @@ ghost use Rattle.outcomes.specs.Outcomes.{kept_of, refused_as, answer_of};
 
 use descriptor::{BurstPart, Refusal, Ruling, TariffPart};
 use notes::{Marks, has};
-use phase_lists::PhaseTable;
+use phase_lists::{PhaseLists, PhaseTable};
 
 // A refusal, or the parts of a descriptor. The values of phase list k, from 0 on, stand from place 90 + 9 k on; there
 // are as many as counts[10 + k] says. Of a list that is longer than nine, nine are kept.
@@ -149,15 +149,14 @@ pub fn phases_of(spacing: u32, reading: Reading) -> PhaseTable
     let counts = reading.counts;
     let held = reading.values;
     let values: &[u32] = &held;
-    descriptor::phases_for(
-        spacing,
-        tariff,
-        kept(values, 90, counts[10]),
-        kept(values, 99, counts[11]),
-        kept(values, 108, counts[12]),
-        kept(values, 117, counts[13]),
-        kept(values, 126, counts[14]),
-        kept(values, 135, counts[15]),
-        kept(values, 144, counts[16]),
-    )
+    let lists = PhaseLists {
+        pri: kept(values, 90, counts[10]),
+        pcx: kept(values, 99, counts[11]),
+        repx: kept(values, 108, counts[12]),
+        pcn: kept(values, 117, counts[13]),
+        repn: kept(values, 126, counts[14]),
+        ci: kept(values, 135, counts[15]),
+        pd: kept(values, 144, counts[16]),
+    };
+    descriptor::phases_for(spacing, tariff, lists)
 }

@@ -1,6 +1,6 @@
--- `Line::describe_text` meets its contract: a text's answer from what the reader keeps of it is that from its whole lists.
+-- `Line::described_by_text` meets its contract: a text's answer from what the reader keeps of it is that from its whole lists.
 use Rattle.line.proofs.Described.{text-is}
-use Rattle.line.proofs.Line.describe_text.Goals as goal
+use Rattle.line.proofs.Line.described_by_text.Goals as goal
 
 pub returns-in-Err : goal.returns-in-Err
 returns-in-Err c = rw (← text-is, ← c.read-reading.ensures, c.in-Err.is, c.refusing.ensures)
