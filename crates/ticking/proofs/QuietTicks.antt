@@ -1,9 +1,9 @@
 -- On a quiet line a tick only moves time on.
-use Rattle.std.specs.Prelude.{None as NoSlot}
-use Rattle.std.proofs.Common.{◌≡◌, ℕ, ◌-◌, ◌≤◌, Bool, true, false, not, ◌&&◌, ◌||◌, ltb, leb, List, refl, ap, arith, ltb-false, eqb-true}
+use Rattle.std.proofs.Common.{◌≡◌, ℕ, ◌-◌, ◌≤◌, Bool, true, false, not, ◌&&◌, ◌||◌, ltb, leb, List, None, Some, refl, sym, ◌∙◌, ap, arith, ltb-false, eqb-true}
 use mathlib.Core.Bool.{and-eq-true_iff, false≢true}
 use borrow.Author.Tests.{not-true}
 use borrow.Table.Steps.{cases}
+use Rattle.std.proofs.lemmas.Option.{none-some, same_Some}
 use Rattle.tariff.specs.Tariffs.{room_of, is_idle}
 use Rattle.steps.specs.Steps.{waiting, stepped, due_of, step_of}
 use Rattle.tariff.specs.declared.Phase.{Phase}
@@ -12,6 +12,7 @@ use Rattle.tariff.specs.declared.Tariff.TheVariants.{Idle, Endless, Counted, Pha
 use Rattle.burst.specs.Bursts.{is_running, held_more, older_of, completes_of, aged_of, is_due, burst_quiet}
 use Rattle.burst.specs.declared.Burst.{Burst}
 use Rattle.state.specs.States.{is_on, count_by, quiet_of, waited_of, quick_of}
+use Rattle.state.specs.declared.Moved.{Moved}
 use Rattle.state.specs.declared.State.{State}
 use Rattle.ticking.specs.Moves.{since_front, burst_after, happens, moved_by}
 
@@ -42,15 +43,15 @@ quiet-parts D S s h =
 
 -- the tariff waits on, the burst runs on, and no burst pulse may start
 module _ (D : ℕ) (ps : List Phase) (n : ℕ) where
-  idle-waits : (t : Tariff) (w : ℕ) → w ≤ 1 → is_idle t ≡ true → due_of D ps n t ≡ stepped (waiting t (w - 1)) NoSlot false
+  idle-waits : (t : Tariff) (w : ℕ) → w ≤ 1 → is_idle t ≡ true → due_of D ps n t ≡ stepped (waiting t (w - 1)) None false
   unfolding due_of
-  idle-waits Idle w l h = ap (λ (x : ℕ). stepped (waiting Idle x) NoSlot false) (omega arith)
+  idle-waits Idle w l h = ap (λ (x : ℕ). stepped (waiting Idle x) None false) (omega arith)
   idle-waits (Endless P) w l h = absurd (false≢true h)
   idle-waits (Counted C P k) w l h = absurd (false≢true h)
   idle-waits (Phased i e s j) w l h = absurd (false≢true h)
   idle-waits Ending w l h = absurd (false≢true h)
 
-  step_waits : (t : Tariff) (w : ℕ) → (ltb 1 w || is_idle t) ≡ true → step_of D ps n t w ≡ stepped (waiting t (w - 1)) NoSlot false
+  step_waits : (t : Tariff) (w : ℕ) → (ltb 1 w || is_idle t) ≡ true → step_of D ps n t w ≡ stepped (waiting t (w - 1)) None false
   unfolding step_of
   step_waits t w h = cases (ltb 1 w) (λ e. rw e) (λ e. rw e (idle-waits t w (ltb-false 1 w e) (rw e at h)))
 
@@ -64,9 +65,18 @@ no_more true true false h = refl
 no_more true false c h = refl
 no_more false b c h = refl
 
-pub quiet_moves : (D S : ℕ) (ps : List Phase) (n : ℕ) (s : State) → quiet_of D S s ≡ true → moved_by D S ps n s ≡ (quick_of D S s).moved
-unfolding moved_by quick_of waited_of count_by since_front burst_after happens
-quiet_moves D S ps n s h =
-    let q : Quiet D S s = quiet-parts D S s h in
-    let still = no_more (is_due (older_of s.burst)) (leb S (held_more S s.since)) (room_of S s.tariff (s.wait - 1)) q.rests in
-    rw (step_waits D ps n s.tariff s.wait q.waits, burst_ages D s.burst q.runs, still, q.holds)
+module _ (D S : ℕ) (ps : List Phase) (n : ℕ) (s : State) where
+  pub quiet_moves : quiet_of D S s ≡ true → quick_of D S s ≡ Some (moved_by D S ps n s)
+  unfolding moved_by quick_of waited_of count_by since_front burst_after happens
+  quiet_moves h =
+      let q : Quiet D S s = quiet-parts D S s h in
+      let still = no_more (is_due (older_of s.burst)) (leb S (held_more S s.since)) (room_of S s.tariff (s.wait - 1)) q.rests in
+      rw (h, step_waits D ps n s.tariff s.wait q.waits, burst_ages D s.burst q.runs, still, q.holds)
+
+  -- so a quick tick is a tick of the line
+  pub quick_moves : (m : Moved) → quick_of D S s ≡ Some m → m ≡ moved_by D S ps n s
+  unfolding quick_of
+  quick_moves m is =
+      cases (quiet_of D S s)
+      (λ h. same_Some m (moved_by D S ps n s) (sym is ∙ quiet_moves h))
+      (λ h. absurd (none-some m (rw h at is)))

@@ -14,14 +14,14 @@ use Rattle.state.specs.declared.Moved.{Moved}
 use Rattle.ticking.specs.Rules.{front_at}
 
 -- after a tick with this front or none: the ticks since the last front, and the burst
-unfoldable pub since_front : Front → ℕ → ℕ
+unfoldable pub since_front : Option Front → ℕ → ℕ
 since_front f since = if_front f 0 since
 
-unfoldable pub burst_after : Front → Burst → Burst
+unfoldable pub burst_after : Option Front → Burst → Burst
 burst_after f b = if_burst f (begun_of b) b
 
 -- something happened: a slot, an empty one too, a front, a completion, or the end of a pulse
-unfoldable pub happens : Option Slot → Front → Bool → Bool → Bool
+unfoldable pub happens : Option Slot → Option Front → Bool → Bool → Bool
 happens s f complete ended = elim s [ None ↦ if_front f true (complete || ended) | Some slot ↦ true ]
 
 -- the clock goes up; what is over ends; a slot due now, or else a burst pulse, begins; counters and report

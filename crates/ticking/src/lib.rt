@@ -12,38 +12,33 @@ use state::{Moved, State};
 use tariff::{Phase, Slot};
 
 // A slot due now begins its pulse, or nothing if it is empty; where none is due, a burst pulse may begin.
-fn front_at(slot: Slot, burst: bool) -> Front
+fn front_at(slot: Option<Slot>, burst: bool) -> Option<Front>
     ensures { result ≡ front_at slot burst }
 {
     match slot {
-        Slot::None => { if burst { Front::Burst } else { Front::None } }
-        Slot::Empty => Front::None,
-        Slot::Pulse => Front::Tariff,
+        None => burst.then_some(Front::Burst),
+        Some(Slot::Empty) => None,
+        Some(Slot::Pulse) => Some(Front::Tariff),
     }
 }
 
 // The ticks since the last front, which may be at this tick.
 #[tactic(auto, unfolding(crate::specs::Moves::since_front))]
-fn since_front(front: Front, since: u32) -> u32
+fn since_front(front: Option<Front>, since: u32) -> u32
     ensures { result ≡ since_front front since }
 {
-    match front {
-        Front::None => since,
-        Front::Tariff => 0,
-        Front::Burst => 0,
-    }
+    if front.is_some() { 0 } else { since }
 }
 
 // The burst after this front or none.
 #[tactic(auto, unfolding(crate::specs::Moves::burst_after))]
-fn burst_after(front: Front, burst: Burst) -> Burst
+fn burst_after(front: Option<Front>, burst: Burst) -> Burst
     ensures { result ≡ burst_after front burst }
 {
-    let begun = burst.begun();
-    match front {
-        Front::None => burst,
-        Front::Tariff => burst,
-        Front::Burst => begun,
+    if front == Some(Front::Burst) {
+        burst.begun()
+    } else {
+        burst
     }
 }
 
@@ -51,23 +46,15 @@ fn burst_after(front: Front, burst: Burst) -> Burst
 fn ends(pulse: u32, before: u32, now: u32) -> bool
     ensures { result ≡ (is_on pulse before && not (is_on pulse now)) }
 {
-    (before < pulse) & !(now < pulse)
+    before < pulse && pulse <= now
 }
 
 // Whether anything happened.
 #[tactic(auto, unfolding(crate::specs::Moves::happens))]
-fn has_event(slot: Slot, front: Front, complete: bool, ended: bool) -> bool
+fn has_event(slot: Option<Slot>, front: Option<Front>, complete: bool, ended: bool) -> bool
     ensures { result ≡ happens slot front complete ended }
 {
-    match slot {
-        Slot::None => match front {
-            Front::None => complete | ended,
-            Front::Tariff => true,
-            Front::Burst => true,
-        },
-        Slot::Empty => true,
-        Slot::Pulse => true,
-    }
+    slot.is_some() || front.is_some() || complete || ended
 }
 
 // One tick, on a line of this pulse length and spacing and with so many phases: the clock goes up, what is over ends, a
@@ -76,28 +63,20 @@ fn has_event(slot: Slot, front: Front, complete: bool, ended: bool) -> bool
 pub fn moved(pulse: u32, spacing: u32, phases: [Phase; 8], count: u32, state: State) -> Moved
     ensures { result ≡ moved_by pulse spacing phases count state }
 {
-    let old_tariff = state.tariff;
-    let old_burst = state.burst;
-    let old_counters = state.counters;
     let since = burst::held_more(spacing, state.since);
-    let t = steps::step(old_tariff, state.wait, pulse, phases, count);
-    let b = old_burst.aged(pulse);
-    let tariff = t.tariff;
-    let burst = b.burst;
-    let slot = t.slot;
-    let room = tariff.room(t.wait, spacing);
-    let may = burst.is_due() & ((spacing <= since) & room);
-    let front = front_at(slot, may);
-    let n = old_counters.counted_by(front);
-    let counters = n.counters;
+    let t = steps::step(state.tariff, state.wait, pulse, phases, count);
+    let b = state.burst.aged(pulse);
+    let may = b.burst.is_due() && spacing <= since && t.tariff.room(t.wait, spacing);
+    let front = front_at(t.slot, may);
+    let n = state.counters.counted_by(front);
     Moved {
         state: State {
             wait: t.wait,
-            clock: std::num::wrapping_add_u32(state.clock, 1),
+            clock: state.clock.wrapping_add(1),
             since: since_front(front, since),
-            tariff,
-            burst: burst_after(front, burst),
-            counters,
+            tariff: t.tariff,
+            burst: burst_after(front, b.burst),
+            counters: n.counters,
         },
         tick: Tick {
             tariff: t.complete,
@@ -105,6 +84,6 @@ pub fn moved(pulse: u32, spacing: u32, phases: [Phase; 8], count: u32, state: St
             front,
             report: n.report,
         },
-        event: has_event(slot, front, t.complete, ends(pulse, state.since, since)),
+        event: has_event(t.slot, front, t.complete, ends(pulse, state.since, since)),
     }
 }
