@@ -24,7 +24,10 @@ impl Line {
             ..self.state.counters
         };
         let wait = self.state.origin_wait(self.spacing);
-        self.with_state(self.state.with_tariff(wait, Tariff::em(count, period), zero))
+        self.with_state(
+            self.state
+                .with_tariff(wait, Tariff::em(count, period), zero),
+        )
     }
 
     // The line with a fresh phased tariff, whose phases are in the table.
@@ -32,11 +35,12 @@ impl Line {
         ensures { result ≡ with_phases self table.carry.count table.phases }
     {
         let wait = self.state.origin_wait(self.spacing);
-        let tariff = Tariff::phased(table.phases);
+        let phases = table.phases;
+        let tariff = Tariff::phased(phases);
         Line {
             count: table.carry.count,
             state: self.state.with_tariff(wait, tariff, self.state.counters),
-            phases: table.phases,
+            phases,
             ..self
         }
     }
@@ -99,12 +103,7 @@ impl Line {
     }
 
     // A descriptor by its parts. The lists are looked at only where the tariff part is phased.
-    fn described_by_parts(
-        self,
-        tariff: TariffPart,
-        lists: PhaseLists,
-        burst: BurstPart,
-    ) -> Answered
+    fn described_by_parts(self, tariff: TariffPart, lists: PhaseLists, burst: BurstPart) -> Answered
         ensures { result ≡ describe_of self tariff (lists_in lists.entry) burst }
     {
         let table = descriptor::phases_for(self.spacing, tariff, lists);
@@ -118,7 +117,7 @@ impl Line {
     {
         let reading = sg::read(text);
         match reading.ruling {
-            Err(refusal) => self.refusing(refusal),
+            Err(why) => self.refusing(why),
             Ok(()) => {
                 let phases = outcomes::phases_of(self.spacing, reading);
                 self.described(reading.tariff, phases, reading.burst)
