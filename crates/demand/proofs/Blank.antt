@@ -1,8 +1,8 @@
 -- The line of a refused configuration begins no pulse in its first 4,294,967,294 ticks, whatever it is told.
+use Rattle.std.specs.Prelude.{None, Option}
 use mathlib.Core.Path.{◌≡◌, refl}
 use mathlib.Core.Bool.{Bool, true, false, not, and-eq-true_iff, and-false}
 use mathlib.Core.List.{List, [], ◌∷◌}
-use mathlib.Core.Option.{Option}
 use Prim.Native.Nat.{ℕ, zero, suc, ◌+◌, ◌*◌, ◌≤◌, ◌<◌}
 use native.Mathlib.Nat.{div-le_self}
 use native.Mathlib.Omega.{arith}
@@ -23,7 +23,7 @@ use Rattle.ticking.specs.Moves.{moved_by}
 use Rattle.line.specs.Lines.{blank_line, make_of, with_serial, ask_of, hook_of, period_of, no_period_of, audit_of, answered_by, tariff_changed, burst_changed, with_period, move_of, tick_of}
 use Rattle.line.specs.declared.Line.{Line}
 use Rattle.grammar.specs.Meaning.{Reading, unreadable, senseless, descriptor}
-use Rattle.demand.specs.Names.{None, Phase, TariffPart, NoTariff, KeepTariff, Rate, Em, Phased, BurstPart, NoBurst, KeepBurst, Start, KeepHook, Stop, Ruling, Ok, Err}
+use Rattle.demand.specs.Names.{Phase, TariffPart, NoTariff, KeepTariff, Rate, Em, Phased, BurstPart, NoBurst, KeepBurst, Start, KeepHook, Stop, Ruling, Ok, Err}
 use Rattle.demand.specs.Calls.{Call, describe, ask, hook, period, no_period, audit, tick, Entry}
 use Rattle.demand.specs.History.{front_of, sum, ticks}
 use Rattle.demand.specs.Machine.{ruling_of, answered, step, Past, past, noted, after_calls, entries, history}

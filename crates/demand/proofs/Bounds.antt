@@ -3,7 +3,6 @@
 use mathlib.Core.Path.{◌≡◌, refl}
 use mathlib.Core.Bool.{Bool, not, ◌&&◌, and-eq-true_iff}
 use mathlib.Core.List.{List}
-use mathlib.Core.Option.{Option}
 use Prim.Native.Nat.{ℕ, ◌^◌, ◌≤◌, ◌<◌}
 use native.Mathlib.Omega.{arith}
 use borrow.Author.Tests.{leb-true, not-false}
@@ -25,7 +24,7 @@ use Rattle.descriptor.specs.declared.TariffPart.TheVariants.{None as NoTariff, K
 use Rattle.descriptor.specs.declared.BurstPart.{BurstPart}
 use Rattle.descriptor.specs.declared.BurstPart.TheVariants.{None as NoBurst, Keep as KeepBurst, Start}
 use Rattle.descriptor.specs.Names.{Ruling}
-use Rattle.std.specs.Prelude.{Ok, Err, None, Some}
+use Rattle.std.specs.Prelude.{Ok, Err, None, Some, Option}
 use Rattle.descriptor.specs.declared.Hook.TheVariants.{Keep, Stop}
 use Rattle.burst.specs.Bursts.{no_burst, is_running, held_more, completes_of, aged_of, is_due}
 use Rattle.burst.specs.declared.Burst.{Burst}

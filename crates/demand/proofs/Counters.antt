@@ -1,12 +1,12 @@
 -- The counters of a line: cpc is the fronts since the last fresh em, held at the top through every tick and command.
-use Rattle.std.specs.Prelude.{Option, Some}
+use Rattle.std.specs.Prelude.{Option, Some, None}
 use mathlib.Core.Path.{◌≡◌, refl}
 use mathlib.Core.List.{List}
 use Prim.Native.Nat.{ℕ, ◌+◌, min}
 use native.Mathlib.Omega.{arith}
 use Rattle.answers.specs.Fronts.{if_front}
 use Rattle.state.specs.Rules.{one_more}
-use Rattle.demand.specs.Names.{Front, None, TariffFront, BurstFront, TariffPart, NoTariff, KeepTariff, Rate, Em, Phased}
+use Rattle.demand.specs.Names.{Front, TariffFront, BurstFront, TariffPart, NoTariff, KeepTariff, Rate, Em, Phased}
 use Rattle.demand.specs.Calls.{Entry}
 use Rattle.demand.specs.History.{zeroed_by, fronts_since_em}
 

@@ -1,5 +1,5 @@
 -- The starred examples of the paper hold.
-use Rattle.std.specs.Prelude.{Option, Some}
+use Rattle.std.specs.Prelude.{Option, Some, None}
 use mathlib.Core.Path.{◌≡◌, refl, ◌∙◌}
 use mathlib.Core.Bool.{cond}
 use Prim.Native.Nat.{ℕ, zero, suc, ◌+◌, ◌*◌}
@@ -11,7 +11,7 @@ use Rattle.slots.specs.Slots.{any_below, counted_slot, phase_slot}
 use Rattle.descriptor.specs.Refusals.{ruling}
 use Rattle.slots.proofs.Count.{count_below}
 use Rattle.slots.proofs.PhasePulses.{is_pulse, phase-pulses}
-use Rattle.demand.specs.Names.{Slot, None, Empty, Pulse}
+use Rattle.demand.specs.Names.{Slot, Empty, Pulse}
 use Rattle.demand.specs.Answers.{answer_after}
 use Rattle.demand.specs.Examples.{pulses_below, three_minutes, examples, AllStarred}
 

@@ -1,9 +1,8 @@
 -- A descriptor that a line would accept is one that it would accept after a call that is not accepted, a tick say.
-use Rattle.std.specs.Prelude.{Option, Some}
+use Rattle.std.specs.Prelude.{Option, Some, None}
 use mathlib.Core.Path.{◌≡◌, refl, sym}
 use mathlib.Core.Bool.{Bool, true, false, not, true≢false}
 use mathlib.Core.List.{List, [], ◌∷◌, ◌++◌}
-use mathlib.Core.Option.{none}
 use Prim.Native.Nat.{ℕ}
 use native.Mathlib.Omega.{arith}
 use borrow.Table.Steps.{cases}
@@ -20,7 +19,7 @@ use Rattle.burst.specs.declared.Burst.{Burst as Bursting}
 use Rattle.ticking.specs.Moves.{burst_after, moved_by}
 use Rattle.line.specs.Lines.{hook_of, period_of, no_period_of, audit_of, ask_of, tick_of, answered_by}
 use Rattle.line.specs.declared.Line.{Line}
-use Rattle.demand.specs.Names.{Front, None, TariffFront, BurstFront, Phase, TariffPart, NoTariff, KeepTariff, Rate, Em, Phased, BurstPart, NoBurst, KeepBurst, Start, KeepHook, Stop, Ruling, Ok, Err, Reading, unreadable, senseless, descriptor}
+use Rattle.demand.specs.Names.{Front, TariffFront, BurstFront, Phase, TariffPart, NoTariff, KeepTariff, Rate, Em, Phased, BurstPart, NoBurst, KeepBurst, Start, KeepHook, Stop, Ruling, Ok, Err, Reading, unreadable, senseless, descriptor}
 use Rattle.demand.specs.Calls.{Call, describe, ask, hook, period, no_period, audit, tick, Answer}
 use Rattle.demand.specs.Serials.{is_change}
 use Rattle.demand.specs.Machine.{ruling_of, Outcome, outcome, answered, step}

@@ -1,5 +1,5 @@
 -- The report period is kept up with, however it was shortened: no front leaves pcslr at or above it.
-use Rattle.std.specs.Prelude.{Option, Some}
+use Rattle.std.specs.Prelude.{Option, Some, None}
 use mathlib.Core.Path.{◌≡◌}
 use mathlib.Core.Bool.{true, false, cond}
 use mathlib.Core.List.{List, ◌∷◌, ◌++◌}
@@ -11,7 +11,7 @@ use lib.Dec.{leb}
 use Rattle.answers.specs.Fronts.{if_front, is_front}
 use Rattle.descriptor.specs.Refusals.{sound_configuration}
 use Rattle.state.specs.Rules.{one_more, report_due}
-use Rattle.demand.specs.Names.{Front, None, TariffFront, BurstFront, Ok, Err}
+use Rattle.demand.specs.Names.{Front, TariffFront, BurstFront, Ok, Err}
 use Rattle.demand.specs.Calls.{Call, Answer, Entry, asks}
 use Rattle.demand.specs.History.{unless_refused, told, front_of, ticks, zeroed_by, since_report, period_in}
 use Rattle.demand.specs.Answers.{tick_after}

@@ -2,7 +2,6 @@
 use mathlib.Core.Path.{◌≡◌, refl, ap, ◌∙◌}
 use mathlib.Core.Bool.{Bool, true}
 use mathlib.Core.List.{List, [], ◌∷◌, ◌++◌}
-use mathlib.Core.Option.{Option, some}
 use Prim.Native.Nat.{ℕ, ◌+◌, ◌%◌, ◌^◌, ◌<◌}
 use native.Mathlib.Omega.{arith}
 use Rattle.tariff.specs.declared.Tariff.TheVariants.{Idle}
@@ -11,7 +10,7 @@ use Rattle.phase_lists.specs.Lists.{phases_of}
 use Rattle.phase_lists.specs.Tables.{no_phases}
 use Rattle.descriptor.specs.Refusals.{ruling}
 use Rattle.descriptor.specs.Names.{Ruling}
-use Rattle.std.specs.Prelude.{Ok, Err, Some}
+use Rattle.std.specs.Prelude.{Ok, Err, Some, Option}
 use Rattle.descriptor.specs.declared.TariffPart.TheVariants.{None as NoTariff}
 use Rattle.descriptor.specs.declared.BurstPart.TheVariants.{None as NoBurst}
 use Rattle.descriptor.specs.declared.Hook.TheVariants.{Keep, Stop}
@@ -30,7 +29,7 @@ use Rattle.demand.proofs.Held.{held_on}
 use Rattle.demand.proofs.Described.{described_by, describe-step, allowed-reading, unreadable-refused, senseless-refused}
 use Rattle.demand.proofs.Serials.{serial_by, serial-held, serial-after}
 use Rattle.demand.proofs.Counters.{total, counted-held, zeroed_held}
-use Rattle.demand.proofs.Coupled.{Config, At, line_at, with-total, serial-at, Coupled, none}
+use Rattle.demand.proofs.Coupled.{none, Config, At, line_at, with-total, serial-at, Coupled}
 use Rattle.demand.proofs.Bursts.{owed-is, runs-is}
 use Rattle.demand.proofs.Commands.{tariff-at, burst-at, period-at}
 use Rattle.demand.proofs.Taken.{taken}

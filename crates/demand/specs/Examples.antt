@@ -1,9 +1,9 @@
 -- The starred examples of the paper, together in one list, and what each says of the definitions.
-use Rattle.std.specs.Prelude.{◌≡◌, cond, List, [], ◌∷◌, ◌++◌, map, ℕ, zero, suc, ◌+◌, ◌*◌, Option, Some}
+use Rattle.std.specs.Prelude.{◌≡◌, cond, List, [], ◌∷◌, ◌++◌, map, ℕ, zero, suc, ◌+◌, ◌*◌, Option, Some, None}
 use Rattle.pulse_map.specs.Examples.{Example, starred, Holds}
 use Rattle.slots.specs.Slots.{no_slot, counted_slot, phase_slot}
 use Rattle.phase_lists.specs.Lists.{no_lists}
-use Rattle.demand.specs.Names.{Phase, Slot, None, Empty, Pulse, Em, KeepBurst}
+use Rattle.demand.specs.Names.{Phase, Slot, Empty, Pulse, Em, KeepBurst}
 use Rattle.demand.specs.Calls.{Answer, accepted, refused}
 use Rattle.demand.specs.Machine.{parts}
 use Rattle.demand.specs.Answers.{answer_after}

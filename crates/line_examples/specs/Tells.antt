@@ -1,5 +1,5 @@
 -- What a tick and a verdict tell, as tests.
-use Rattle.std.specs.Prelude.{Bool, true, false, eqb, ℕ, Ok, Err, Option, None}
+use Rattle.std.specs.Prelude.{Bool, true, false, eqb, ℕ, Ok, Err, Option, None, Some}
 use Rattle.answers.specs.declared.Front.{Front}
 use Rattle.answers.specs.declared.Front.TheVariants.{Tariff, Burst}
 use Rattle.descriptor.specs.Refusals.{refusal_number}
@@ -8,8 +8,8 @@ use Rattle.line.specs.Lines.{Verdict}
 -- a tariff pulse begins
 abbrev pub is_tariff : Option Front → Bool
 is_tariff None = false
-is_tariff Tariff = true
-is_tariff Burst = false
+is_tariff (Some Tariff) = true
+is_tariff (Some Burst) = false
 
 -- accepted, with so many burst pulses cancelled
 abbrev pub accepts : ℕ → Verdict → Bool

@@ -8,81 +8,68 @@ ghost use Rattle.line_examples.specs.Tells.{is_tariff, accepts, refuses};
 
 use answers::Front;
 use check::expect;
-use descriptor::{BurstPart, Hook, TariffPart};
+use descriptor::{BurstPart, Descriptor, Hook, TariffPart};
 use line::{Line, Verdict};
+use phase_lists::PhaseLists;
 
-fn is_tariff(front: Front) -> bool
+fn is_tariff(front: Option<Front>) -> bool
     ensures { result ≡ is_tariff front }
 {
-    match front {
-        Front::None => false,
-        Front::Tariff => true,
-        Front::Burst => false,
-    }
+    front == Some(Front::Tariff)
 }
 
 fn accepted(cancelled: u32, verdict: Verdict) -> bool
     ensures { result ≡ accepts cancelled verdict }
 {
-    match verdict {
-        Ok(n) => n == cancelled,
-        Err(_) => false,
-    }
+    verdict.is_ok_and(|n| n == cancelled)
 }
 
 fn refused(number: u32, verdict: Verdict) -> bool
     ensures { result ≡ refuses number verdict }
 {
-    match verdict {
-        Ok(_) => false,
-        Err(why) => why.number() == number,
-    }
+    verdict.is_err_and(|why| why.number() == number)
 }
 
 // A descriptor without phases.
 fn ask(line: Line, tariff: TariffPart, burst: BurstPart) -> line::Answered
     ensures { result ≡ describe_of line tariff no_lists burst }
 {
-    let none = [0u32; 0];
-    line.describe(
-        tariff, &none, &none, &none, &none, &none, &none, &none, burst,
-    )
+    let lists = PhaseLists {
+        pri: &[],
+        pcx: &[],
+        repx: &[],
+        pcn: &[],
+        repn: &[],
+        ci: &[],
+        pd: &[],
+    };
+    line.describe(Descriptor::Parts {
+        tariff,
+        lists,
+        burst,
+    })
 }
 
 #[tactic(auto, unfolding(burst::specs::Bursts::aged_of, ticking::specs::Moves::burst_after, line::specs::Lines::burst_changed, burst::specs::Bursts::completes_of, state::specs::States::count_by, state::specs::States::count_of, line::specs::Lines::describe_of, rules::specs::Rules::distance_of, steps::specs::Steps::due_of, tariff::specs::Tariffs::em_of, line::specs::Lines::fresh_line, line::specs::Lines::hook_of, line::specs::Lines::make_of, ticking::specs::Moves::moved_by, descriptor::specs::Refusals::ruling, ticking::specs::Moves::since_front, rules::specs::Rules::sound_em, steps::specs::Steps::step_of, line::specs::Lines::tariff_changed, line::specs::Lines::tick_of))]
 fn main() {
-    let made = Line::make(50, 50, 0);
-    let fresh = made.line;
-    let early = ask(
-        fresh,
-        TariffPart::Em {
-            count: 0,
-            period: 199,
-        },
-        BurstPart::Keep,
-    );
-    let no = early.verdict;
-    expect(refused(4, no));
-    let call = ask(
-        fresh,
-        TariffPart::Em {
-            count: 0,
-            period: 400,
-        },
-        BurstPart::Start {
-            pulses: 2,
-            interval: 1,
-        },
-    );
-    let yes = call.verdict;
-    expect(accepted(0, yes));
-    let ringing = call.line;
-    let first = ringing.tick();
-    let told = first.tick;
-    let front = told.front;
-    expect(is_tariff(front));
-    let on = first.line;
-    let down = on.hook(Hook::Stop);
-    let stopped = down.verdict;
-    expect(accepted(2, stopped));
+    let fresh = Line::make(50, 50, 0).line;
+    let early = TariffPart::Em {
+        count: 0,
+        period: 199,
+    };
+    expect(refused(4, ask(fresh, early, BurstPart::Keep).verdict));
+    let em = TariffPart::Em {
+        count: 0,
+        period: 400,
+    };
+    let charge = BurstPart::Start {
+        pulses: 2,
+        interval: 1,
+    };
+    let call = ask(fresh, em, charge);
+    expect(accepted(0, call.verdict));
+    let first = call.line.tick();
+    expect(is_tariff(first.tick.front));
+    let down = first.line.hook(Hook::Stop);
+    expect(accepted(2, down.verdict));
 }
