@@ -1,9 +1,4 @@
 -- The root of the proofs: the functions' laws first, then the claims on every list of calls.
-pub mod Held
-pub mod Notice
-pub mod Sign
-pub mod Enables
-pub mod Ticks
 pub mod Same
 pub mod Coupling
 pub mod Lri

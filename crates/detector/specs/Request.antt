@@ -1,13 +1,11 @@
 -- What a detector is asked for, and the answer.
-use Rattle.std.specs.Prelude.{ℕ, Bool, true, false, cond, ◌&&◌, ◌||◌, ltb, eqb}
+use Rattle.std.specs.Prelude.{ℕ, Bool, true, false, cond, ◌&&◌, ◌||◌, ltb, eqb, Result, Ok, Err}
 use Rattle.detector.specs.declared.request.Request.{Request}
 use Rattle.detector.specs.declared.request.Request.TheVariants.{Off, Pr, Ric}
 use Rattle.detector.specs.declared.request.Events.{Events}
 use Rattle.detector.specs.declared.request.Events.TheVariants.{Neither, Pr as PrEvent, Ric as RicEvent, Both}
 use Rattle.detector.specs.declared.request.Refusal.{Refusal}
 use Rattle.detector.specs.declared.request.Refusal.TheVariants.{OutOfRange, InvalidCombination}
-use Rattle.detector.specs.declared.request.Answer.{Answer}
-use Rattle.detector.specs.declared.request.Answer.TheVariants.{Accepted, Refused}
 
 -- Request: off, pr with rp, or ric with rit. One that is not off enables the detector.
 abbrev pub enabled : Request → Bool
@@ -49,9 +47,9 @@ detector_number OutOfRange = 10
 detector_number InvalidCombination = 459
 
 -- The answer's meaning.
-abbrev pub reply_of : Answer → Reply
-reply_of Accepted = ok
-reply_of (Refused r) = no (detector_number r)
+abbrev pub reply_of : Result Unit Refusal → Reply
+reply_of (Ok u) = ok
+reply_of (Err r) = no (detector_number r)
 
 -- pr and ric together.
 abbrev pub together : Events → Bool

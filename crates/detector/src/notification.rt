@@ -1,47 +1,49 @@
-// What a tick gives: nothing, a report, or an event with its interval and count.
-ghost use Rattle.std.specs.Prelude.{◌≡◌};
-ghost use Rattle.detector.specs.Notice.{notice_of, ric_event, ric_interval, notice_by};
+// What a tick gives: a report, or an event with its interval and count.
+ghost use Rattle.std.specs.Prelude.{◌≡◌, ◌≤◌};
+ghost use Rattle.detector.specs.Notice.{notice_of, ric_notice, notice_at, interval_of};
+
+use crate::request::Request;
 
 // What a tick gives.
-#[derive(Clone, Copy)]
+#[derive(Clone, Copy, PartialEq, Eq, Debug)]
 pub enum Notification {
-    Nothing,
     Report,
     Event { interval: u32, count: u32 },
 }
 
-// Under ric, whether a tick gives an event. Both lri − rit, which may be negative, and lri + rit are taken in 64 bits.
-pub(crate) fn ric_event(pulse: bool, lri: i32, rit: u32, e: u32) -> bool
-    ensures { result ≡ ric_event pulse lri rit e }
+// Under ric, the event of a tick, if it gives one. Both lri − rit, which may be negative, and lri + rit are taken in
+// 64 bits.
+fn ric_event(pulse: bool, lri: i32, rit: u32, e: u32, count: u32) -> Option<Notification>
+    ensures notice { notice_of result ≡ ric_notice pulse lri rit e count }
+    ensures bound { interval_of (notice_of result) ≤ e }
 {
-    if pulse {
-        (lri <= 0) | ((e as i64) < (lri as i64) - (rit as i64))
-    } else if lri <= 0 {
-        false
+    let (last, threshold, now) = (i64::from(lri), i64::from(rit), i64::from(e));
+    let interval = if pulse && lri < 0 {
+        0
+    } else if pulse && (lri == 0 || now < last - threshold) {
+        e
+    } else if !pulse && lri > 0 && now == last + threshold {
+        0
     } else {
-        (e as u64) == (lri as u64) + (rit as u64)
-    }
+        return None;
+    };
+    Some(Notification::Event { interval, count })
 }
 
-// Under ric, the interval of a tick's event: e where a pulse ends an interval.
-pub(crate) fn ric_interval(pulse: bool, lri: i32, e: u32) -> u32
-    ensures { result ≡ ric_interval pulse lri e }
+// What a tick gives by the request that is on; the count is taken after the pulse was counted.
+pub(crate) fn given(
+    request: Request,
+    pulse: bool,
+    lri: i32,
+    e: u32,
+    count: u32,
+) -> Option<Notification>
+    ensures notice { notice_of result ≡ notice_at request pulse lri e count }
+    ensures bound { interval_of (notice_of result) ≤ e }
 {
-    if pulse & (0 <= lri) { e } else { 0 }
-}
-
-// The notification of an event, a report or neither.
-pub(crate) fn given(event: bool, report: bool, interval: u32, count: u32) -> Notification
-    ensures { notice_of result ≡ notice_by event report interval count }
-{
-    if event {
-        Notification::Event {
-            interval: interval,
-            count: count,
-        }
-    } else if report {
-        Notification::Report
-    } else {
-        Notification::Nothing
+    match request {
+        Request::Pr { rp } if pulse && count == rp => Some(Notification::Report),
+        Request::Ric { rit } => ric_event(pulse, lri, rit, e, count),
+        _ => None,
     }
 }

@@ -10,28 +10,23 @@ use std::io;
 // A request, and its answer written.
 fn ask(rt: &impl Print, d: Detector, events: Events) -> io::Result<Detector> {
     let r = d.request(events);
-    let answer = r.answer;
-    print::answer(rt, answer)?;
+    print::answer(rt, r.answer)?;
     Ok(r.detector)
 }
 
 // One tick, and what it gives written.
 fn tick(rt: &impl Print, d: Detector, pulse: bool) -> io::Result<Detector> {
     let t = d.tick(pulse);
-    let notification = t.notification;
-    print::notification(rt, notification)?;
+    print::notification(rt, t.notification)?;
     Ok(t.detector)
 }
 
 // Ticks without a pulse.
-fn silence(rt: &impl Print, d: Detector, ticks: u32) -> io::Result<Detector> {
-    let mut now = d;
-    let mut i: u32 = 0;
-    while i < ticks {
-        now = tick(rt, now, false)?;
-        i = i + 1;
+fn silence(rt: &impl Print, mut d: Detector, ticks: u32) -> io::Result<Detector> {
+    for _ in 0..ticks {
+        d = tick(rt, d, false)?;
     }
-    Ok(now)
+    Ok(d)
 }
 
 // A pulse after so many ticks without one.

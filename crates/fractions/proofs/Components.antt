@@ -1,16 +1,19 @@
 -- The laws of a tariff's parameters.
-use mathlib.Core.Path.{◌≡◌}
-use Prim.Native.Nat.{ℕ, ◌+◌, ◌*◌, ◌%◌, ◌≤◌, ◌<◌}
+use mathlib.Core.Path.{◌≡◌, sym}
+use Prim.Native.Nat.{ℕ, ◌+◌, ◌*◌, ◌/◌, ◌%◌, min, ◌≤◌, ◌<◌}
 use native.Mathlib.Nat.{mod-lt, mul-le-mul_left, mul-le-mul_right, div-lt_iff_lt-mul, mul-zero, div-eq_of_lt, div-eq_of_lt-le, div-add-mod'}
 use native.Mathlib.Omega.{arith}
+use Rattle.std.proofs.lemmas.Grind.{div_ceil_times}
+use Rattle.fractions.specs.Rounding.{rounded_up}
 use Rattle.fractions.specs.Components.{pcn_of, pcx_of, repx_of, repn_of}
+
+-- the quotient, and one more where there is a rest, is the quotient rounded up
+pub round_up : (a b : ℕ) → 0 < b → a / b + min 1 (a % b) ≡ rounded_up a b
+round_up a b h = sym (div-eq_of_lt-le b (omega (arith, div_ceil_times a b h)) (omega (arith, div_ceil_times a b h)))
 
 -- n times the fraction part, before it is divided by b
 share_le : (a b n : ℕ) → 0 < b → n * (a % b) ≤ n * b
 share_le a b n h = mul-le-mul_left n (omega (arith, mod-lt a h))
-
-pub share_top : (a b n : ℕ) → 0 < b → n ≤ 100 → n * (a % b) ≤ 100 * b
-share_top a b n h l = omega (arith, share_le a b n h, mul-le-mul_right b l)
 
 -- repx is at most n, so that repx and repn are n together
 pub repx_le : (a b n : ℕ) → 0 < b → repx_of a b n ≤ n

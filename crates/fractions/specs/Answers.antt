@@ -1,8 +1,7 @@
 -- What the paper answers of a/b pulses over n elements: refusal 9, or the two components.
-use Rattle.std.specs.Prelude.{Bool, cond, ◌||◌, ℕ, ltb, eqb}
+use Rattle.std.specs.Prelude.{Bool, cond, ◌||◌, ℕ, ltb, eqb, Option, Some, None}
 use Rattle.fractions.specs.Components.{pcx_of, Components, components_of}
 use Rattle.fractions.specs.declared.Parameters.{Parameters}
-use Rattle.fractions.specs.declared.Parameters.TheVariants.{Given as GivenParameters, Refused as NoParameters}
 
 -- a refusal with its number, or what is given
 pub data Result (A : Type 0) : Type 0 where
@@ -21,7 +20,7 @@ no_tariff a b n = eqb b 0 || (outside n 1 100 || ltb 65535 (pcx_of a b))
 abbrev pub parameters_answer : ℕ → ℕ → ℕ → Result Components
 parameters_answer a b n = cond (no_tariff a b n) (refused 9) (given (components_of a b n))
 
--- the parameters of a tariff, or 9
-abbrev pub parameters_told : Parameters → Result Components
-parameters_told (GivenParameters pcn pcx repx repn) = given (record { pcn = pcn; pcx = pcx; repx = repx; repn = repn })
-parameters_told NoParameters = refused 9
+-- the parameters of a tariff; none is 9
+abbrev pub parameters_told : Option Parameters → Result Components
+parameters_told None = refused 9
+parameters_told (Some p) = given (record { pcn = p.pcn; pcx = p.pcx; repx = p.repx; repn = p.repn })

@@ -5,56 +5,42 @@ ghost use Rattle.std.specs.Prelude.{◌≡◌, ◌<◌, ◌≤◌};
 ghost use Rattle.fractions.specs.Components.{repx_of};
 ghost use Rattle.fractions.specs.Answers.{parameters_answer, parameters_told};
 
-// The parameters of a tariff, or refusal 9.
-#[derive(Clone, Copy)]
-pub enum Parameters {
-    Given {
-        pcn: u32,
-        pcx: u32,
-        repx: u32,
-        repn: u32,
-    },
-    Refused,
+// The pulse counts of a tariff, and how often each stands in its map.
+#[derive(Clone, Copy, PartialEq, Eq, Debug)]
+pub struct Parameters {
+    pub pcn: u32,
+    pub pcx: u32,
+    pub repx: u32,
+    pub repn: u32,
 }
 
 // n times the fraction part of a/b, rounded half up.
-fn repx_of(a: u64, b: u64, n: u64) -> u64
+fn repx_of(a: u32, b: u32, n: u32) -> u32
     requires b_nonzero { 0 < b }
-    requires b_bound { b < 4294967296 }
     requires n_bound { n ≤ 100 }
     ensures { result ≡ repx_of a b n }
 {
-    (2 * (n * (a % b)) + b) / (2 * b)
+    let (p, q) = (u64::from(n) * u64::from(a % b), u64::from(b));
+    ((2 * p + q) / (2 * q)) as u32
 }
 
-// The pulse counts of the tariff and how often each stands in its map.
-#[tactic(auto, unfolding(crate::specs::Answers::no_tariff))]
-pub fn parameters_of(a: u32, b: u32, n: u32) -> Parameters
+// The parameters of a tariff; none is refusal 9.
+#[tactic(auto, using(crate::proofs::Components::round_up, crate::proofs::Components::repx_le), unfolding(crate::specs::Answers::no_tariff))]
+pub fn parameters_of(a: u32, b: u32, n: u32) -> Option<Parameters>
     ensures { parameters_told result ≡ parameters_answer a b n }
 {
-    if b == 0 {
-        return Parameters::Refused;
+    if b == 0 || n < 1 || n > 100 {
+        return None;
     }
-    if n < 1 {
-        return Parameters::Refused;
-    }
-    if n > 100 {
-        return Parameters::Refused;
-    }
-    let p = a as u64;
-    let q = b as u64;
-    let m = n as u64;
-    let pcn = a / b;
-    let pcx = (p + (q - 1)) / q;
+    let pcx = a.div_ceil(b);
     if pcx > 65535 {
-        return Parameters::Refused;
+        return None;
     }
-    let repx = repx_of(p, q, m);
-    let repn = m - repx;
-    Parameters::Given {
-        pcn,
-        pcx: pcx as u32,
-        repx: repx as u32,
-        repn: repn as u32,
-    }
+    let repx = repx_of(a, b, n);
+    Some(Parameters {
+        pcn: a / b,
+        pcx,
+        repx,
+        repn: n - repx,
+    })
 }

@@ -9,17 +9,9 @@ mod tables;
 pub use map::{element_at, xs_in_prefix};
 pub use pulses::pulses_in;
 
-// An element of a map, or refusal 11.
-#[derive(Clone, Copy)]
+// An element of a map.
+#[derive(Clone, Copy, PartialEq, Eq, Debug)]
 pub enum Element {
     X,
     N,
-    Refused,
-}
-
-// A number of X's or of pulses, or refusal 11.
-#[derive(Clone, Copy)]
-pub enum Count {
-    Given(u64),
-    Refused,
 }

@@ -5,7 +5,7 @@ ghost use Rattle.pulse_map.specs.Refusals.{no_map};
 ghost use Rattle.pulse_map.specs.Answers.{element_answer, xs_answer};
 ghost use Rattle.pulse_map.specs.Told.{element_told, count_told};
 
-use super::{Count, Element, interleaving, tables};
+use super::{Element, interleaving, tables};
 
 // Whether there is no map of this length, or it has fewer than k elements.
 pub(crate) fn no_map(repx: u32, repn: u32, k: u64) -> bool
@@ -53,26 +53,26 @@ pub(crate) fn xs_before(x: u64, n: u64, k: u64) -> u64
     }
 }
 
-// Element i of the map, the first being element 0.
-pub fn element_at(repx: u32, repn: u32, i: u32) -> Element
+// Element i of the map, the first being element 0; none is refusal 11.
+pub fn element_at(repx: u32, repn: u32, i: u32) -> Option<Element>
     ensures { element_told result ≡ element_answer repx repn i }
 {
-    if no_map(repx, repn, i as u64 + 1) {
-        return Element::Refused;
+    if no_map(repx, repn, u64::from(i) + 1) {
+        return None;
     }
-    if bit_at(repx as u64, repn as u64, i as u64) == 1 {
-        Element::X
+    if bit_at(u64::from(repx), u64::from(repn), u64::from(i)) == 1 {
+        Some(Element::X)
     } else {
-        Element::N
+        Some(Element::N)
     }
 }
 
-// The number of X's among the first k elements of the map.
-pub fn xs_in_prefix(repx: u32, repn: u32, k: u32) -> Count
+// The number of X's among the first k elements of the map; none is refusal 11.
+pub fn xs_in_prefix(repx: u32, repn: u32, k: u32) -> Option<u64>
     ensures { count_told result ≡ xs_answer repx repn k }
 {
-    if no_map(repx, repn, k as u64) {
-        return Count::Refused;
+    if no_map(repx, repn, u64::from(k)) {
+        return None;
     }
-    Count::Given(xs_before(repx as u64, repn as u64, k as u64))
+    Some(xs_before(u64::from(repx), u64::from(repn), u64::from(k)))
 }

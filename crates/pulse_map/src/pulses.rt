@@ -4,7 +4,7 @@ ghost use Rattle.pulse_map.specs.Pulses.{pulses_in};
 ghost use Rattle.pulse_map.specs.Answers.{pulses_answer};
 ghost use Rattle.pulse_map.specs.Told.{count_told};
 
-use super::{Count, map};
+use super::map;
 
 // The X's of the first k intervals: x in each whole turn of the map, and those of the turn begun.
 fn xs_over(x: u32, n: u32, k: u32) -> u64
@@ -26,13 +26,13 @@ fn weighed(pcx: u32, pcn: u32, xs: u64, k: u32) -> u64
     xs * pcx as u64 + (k as u64 - xs) * pcn as u64
 }
 
-// The number of pulses in the first k charge intervals of a phase.
-pub fn pulses_in(pcx: u32, repx: u32, pcn: u32, repn: u32, k: u32) -> Count
+// The number of pulses in the first k charge intervals of a phase; none is refusal 11.
+pub fn pulses_in(pcx: u32, repx: u32, pcn: u32, repn: u32, k: u32) -> Option<u64>
     ensures { count_told result ≡ pulses_answer pcx repx pcn repn k }
 {
     if map::no_map(repx, repn, 0) {
-        return Count::Refused;
+        return None;
     }
     let xs = xs_over(repx, repn, k);
-    Count::Given(weighed(pcx, pcn, xs, k))
+    Some(weighed(pcx, pcn, xs, k))
 }

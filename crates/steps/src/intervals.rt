@@ -14,11 +14,10 @@ pub(crate) fn pulses_at(p: Phase, entry: u64) -> u32
     if entry >= 100 {
         return 0;
     }
-    let element = pulse_map::element_at(p.repx, p.repn, entry as u32);
-    match element {
-        Element::X => p.pcx,
-        Element::N => p.pcn,
-        Element::Refused => 0,
+    match pulse_map::element_at(p.repx, p.repn, entry as u32) {
+        Some(Element::X) => p.pcx,
+        Some(Element::N) => p.pcn,
+        None => 0,
     }
 }
 
