@@ -1,0 +1,2 @@
+-- The laws of a text that is put.
+pub mod TextLaws
