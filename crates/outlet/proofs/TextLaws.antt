@@ -5,7 +5,7 @@ use Rattle.std.specs.Io.KnownBytes.{Appends}
 use Rattle.outlet.specs.declared.Outlet.{Outlet}
 use Rattle.outlet.specs.Texts.{Texts, Tries, Puts}
 use Rattle.std.proofs.lemmas.Bool.{false≢true}
-use Rattle.std.proofs.Common.{sym, rules}
+use Rattle.std.proofs.Common.{sym}
 
 module _ {F W E : Type 0} (g : Texts F) (contents : W → Option (List ℕ)) (text : F) (old : Outlet W) where
   -- it has room

@@ -1,13 +1,17 @@
 -- A text that a closure puts into the free part of a buffer.
 use Rattle.std.specs.Prelude.{◌≡◌, ℕ, ◌+◌, ◌-◌, min, Option, Some, None, List, ◌++◌, length, take, drop, Result, Ok, OnOk, OnErr, MatchOption}
 use Rattle.std.specs.Fn.{Mut, CalledAtMut}
-use Rattle.std.specs.Io.KnownBytes.{Appends}
+use Rattle.std.specs.Io.KnownBytes.{Appends, append_known}
 use Rattle.outlet.specs.declared.Outlet.{Outlet}
 use denote.Ref.{MutBor}
 
 -- how many bytes of a buffer are held back
 abbrev pub held_of : {W : Type 0} → Outlet W → ℕ
 held_of o = min o.held (length o.buf)
+
+-- the bytes that are known to be written out, and then those that are held back
+abbrev pub known_of : {W : Type 0} → (W → Option (List ℕ)) → Outlet W → Option (List ℕ)
+known_of contents o = append_known (contents o.to) (take (held_of o) o.buf)
 
 -- how many are then: a text of so many bytes stands behind them, as far as the buffer goes
 abbrev pub held_after : {W : Type 0} → Outlet W → Option ℕ → ℕ

@@ -1,12 +1,12 @@
 // Output by way of a buffer.
 #![tactic(auto)]
 
-ghost use Rattle.std.specs.Prelude.{◌≡◌, take, is_some, OnOk};
-ghost use Rattle.std.specs.Io.KnownBytes.{Appends};
-ghost use Rattle.outlet.specs.Texts.{Tries, Puts};
+ghost use Rattle.std.specs.Prelude.{◌≡◌, ◌+◌, ◌≤◌, length, take, is_some, OnOk, IfOk};
+ghost use Rattle.std.specs.Io.KnownBytes.{Appends, Keeps};
+ghost use Rattle.outlet.specs.Texts.{Tries, Puts, held_of, known_of};
 
 use std::io;
-use std::io::Write;
+use std::io::{ErrorKind, Write};
 
 // What goes to a writer by way of a buffer, of which the bytes before `held` are held back.
 // Stays: fixed memory; std's BufWriter has its buffer on the heap.
@@ -63,5 +63,51 @@ impl<W: Write> Outlet<W> {
             self.append(&mut text);
         }
         Ok(())
+    }
+
+    // Holds back bytes that have room.
+    fn hold(&mut self, bytes: &[u8])
+        requires { self.old.held + length bytes.now ≤ 65536 }
+        ensures { Appends (known_of W.contents self.old) (known_of W.contents self.new) bytes.now }
+    {
+        let end = self.held + bytes.len();
+        self.buf[self.held..end].copy_from_slice(bytes);
+        self.held = end;
+    }
+
+    // Writes out some of what is held back, and moves the rest to the front.
+    fn write_some(&mut self) -> io::Result<usize>
+        ensures sent { IfOk result (λ n. self.new.held + n ≡ held_of self.old) }
+        ensures bytes { Keeps (known_of W.contents self.old) (known_of W.contents self.new) }
+    {
+        let held = self.held.min(self.buf.len());
+        let sent = self.to.write(&self.buf[..held])?;
+        self.buf.copy_within(sent..held, 0);
+        self.held = held - sent;
+        Ok(sent)
+    }
+}
+
+impl<W: Write> Write for Outlet<W> {
+    // What was written out, and then what is held back.
+    ghost contents = { known_of W.contents };
+
+    // Holds back what has room; where nothing has, some of what is held back is written out first.
+    fn write(&mut self, bytes: &[u8]) -> io::Result<usize> {
+        if self.held >= self.buf.len() {
+            self.write_some()?;
+        }
+        let size = bytes.len().min(self.buf.len() - self.held);
+        self.hold(&bytes[..size]);
+        Ok(size)
+    }
+
+    fn flush(&mut self) -> io::Result<()> {
+        while self.held > 0 {
+            if self.write_some()? == 0 {
+                return Err(ErrorKind::WriteZero.into());
+            }
+        }
+        self.to.flush()
     }
 }

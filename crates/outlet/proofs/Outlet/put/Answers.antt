@@ -13,9 +13,9 @@ returns g c =
     let first = c.append.ensures.put in
     elim c.if-not-append.branch [
       | then-not-append+in_ok-flush w ↦
-        let sent = w.in_ok-flush.ensures in
-        let second = w.append-then-not-append.ensures.put in
-        rw w.self-is (put_twice _ _ _ _ first.0 second.0 _ _ _ _ _ first.1 (sym first.2 ∙ w.if-not-append.true) sent.empty sent.same_buf sent.sent second.1)
+          let sent = w.in_ok-flush.ensures in
+          let second = w.append-then-not-append.ensures.put in
+          rw w.self-is (put_twice _ _ _ _ first.0 second.0 _ _ _ _ _ first.1 (sym first.2 ∙ w.if-not-append.true) sent.empty sent.same_buf sent.sent second.1)
       | else-not-append w ↦
-        rw w.self-is (put_once _ _ _ _ first.0 _ _ _ first.1 (sym first.2 ∙ w.if-not-append.false) refl)
+          rw w.self-is (put_once _ _ _ _ first.0 _ _ _ first.1 (sym first.2 ∙ w.if-not-append.false) refl)
     ]
