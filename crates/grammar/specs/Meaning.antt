@@ -1,5 +1,6 @@
 -- What a text asks for: a descriptor, or nothing where one of the causes applies that are listed here.
-use Rattle.std.specs.Prelude.{ℕ, ◌+◌, ◌*◌, ◌-◌, min, Bool, false, cond, not, ◌||◌, ◌&&◌, List, [], ◌∷◌, ◌++◌, eqb, ltb, leb}
+use Rattle.std.specs.Prelude.{ℕ, ◌+◌, ◌*◌, ◌-◌, min, Bool, false, cond, not, ◌||◌, ◌&&◌, List, [], ◌∷◌, ◌++◌, eqb}
+use Rattle.std.specs.Prelude.{ltb, leb}
 use Prim.Native.String.{String}
 use Rattle.phase_lists.specs.Lists.{Lists, lists_of}
 use Rattle.descriptor.specs.declared.TariffPart.{TariffPart}

@@ -1,5 +1,6 @@
 -- What is noted of a text, piece by piece: faults, and the values of each name.
-use Rattle.std.specs.Prelude.{ℕ, ◌+◌, ◌*◌, Bool, true, false, cond, not, ◌||◌, List, [], ◌∷◌, eqb, ltb, get_or, set, replicate}
+use Rattle.std.specs.Prelude.{ℕ, ◌+◌, ◌*◌, Bool, true, false, cond, not, ◌||◌, List, [], ◌∷◌, eqb, ltb, get_or, set}
+use Rattle.std.specs.Prelude.{replicate}
 use Rattle.grammar.specs.Grammar.{bytes}
 use Rattle.scanner.specs.Codes.{code_of}
 use Rattle.grammar.specs.Meaning.{Known, ◌↣◌, unknown, known_signals, items_of, keep_slot, is_list}

@@ -1,5 +1,6 @@
 -- The rules that an em, a rate and a phase keep on a line of spacing S: "What is turned down" of the paper, 4 and 6.
-use Rattle.std.specs.Prelude.{Bool, true, ◌&&◌, ◌||◌, List, [], ◌∷◌, ℕ, zero, suc, ◌+◌, ◌*◌, ◌/◌, ◌%◌, max, leb, ltb, eqb}
+use Rattle.std.specs.Prelude.{Bool, true, ◌&&◌, ◌||◌, List, [], ◌∷◌, ℕ, zero, suc, ◌+◌, ◌*◌, ◌/◌, ◌%◌, max, leb}
+use Rattle.std.specs.Prelude.{ltb, eqb}
 use Rattle.tariff.specs.Ranges.{within}
 use Rattle.tariff.specs.declared.Phase.{Phase}
 
