@@ -3,36 +3,22 @@
 
 ghost use Rattle.std.specs.Prelude.{◌≡◌, ◌+◌, ◌≤◌, ◌<◌, min, length, take, drop};
 ghost use Rattle.descriptor.specs.Rulings.{table_for};
-ghost use Rattle.grammar.specs.Meaning.{has_lists, is_incomplete, first_or, tariff_by, burst_by, lists_by};
+ghost use Rattle.grammar.specs.Meaning.{has_lists, is_incomplete, first_or, tariff_by, burst_by};
 ghost use Rattle.notes.specs.Noting.{notes_with, has_in};
-ghost use Rattle.outcomes.specs.Outcomes.{kept_of, refused_as, answer_of};
+ghost use Rattle.outcomes.specs.Outcomes.{kept_of, lists_in, answer_of};
 
-use descriptor::{BurstPart, Refusal, Ruling, TariffPart};
+use descriptor::{BurstPart, Refusal, TariffPart};
 use notes::{Marks, has};
 use phase_lists::PhaseTable;
 
-// A refusal, or the parts of a descriptor. The values of phase list k, from 0 on, stand from place 90 + 9 k on; there
+// The parts of a descriptor that was read. The values of phase list k, from 0 on, stand from place 90 + 9 k on; there
 // are as many as counts[10 + k] says. Of a list that is longer than nine, nine are kept.
 #[derive(Clone, Copy)]
 pub struct Reading {
-    pub ruling: Ruling,
     pub tariff: TariffPart,
     pub burst: BurstPart,
     pub counts: [usize; 18],
     pub values: [u32; 162],
-}
-
-// A text that is refused.
-pub fn refused(why: Refusal) -> Reading
-    ensures { result ≡ refused_as why }
-{
-    Reading {
-        ruling: Ruling::TurnedDown(why),
-        tariff: TariffPart::None,
-        burst: BurstPart::None,
-        counts: [0; 18],
-        values: [0; 162],
-    }
 }
 
 // Whether the seven lists of phsm are given.
@@ -111,25 +97,27 @@ fn burst(counts: &[usize; 18], values: &[u32; 162]) -> BurstPart
 }
 
 // What the bytes amount to, by whether they are a whole text, and by what was noted of it.
-pub fn answer(whole: bool, marks: Marks, counts: [usize; 18], values: [u32; 162]) -> Reading
+#[tactic(auto, unfolding(crate::specs::Outcomes::answer_of, crate::specs::Outcomes::outcome_of))]
+pub fn answer(
+    whole: bool,
+    marks: Marks,
+    counts: [usize; 18],
+    values: [u32; 162],
+) -> Result<Reading, Refusal>
     ensures { result ≡ answer_of whole (notes_with marks counts values) }
 {
-    let faulty = marks.bad | is_incomplete(&counts);
     if !whole {
-        return refused(Refusal::Grammar);
+        return Err(Refusal::Grammar);
     }
-    if faulty {
-        return refused(Refusal::Content);
+    if marks.bad | is_incomplete(&counts) {
+        return Err(Refusal::Content);
     }
-    let tariff = tariff(&counts, &values);
-    let burst = burst(&counts, &values);
-    Reading {
-        ruling: Ruling::Allowed,
-        tariff,
-        burst,
+    Ok(Reading {
+        tariff: tariff(&counts, &values),
+        burst: burst(&counts, &values),
         counts,
         values,
-    }
+    })
 }
 
 // The values that are kept of a list, which stand from a place on.
@@ -137,27 +125,26 @@ fn kept(values: &[u32], from: usize, count: usize) -> &[u32]
     requires { from + 9 ≤ length values.now }
     ensures { result.now ≡ take (min count 9) (drop from values.now) }
 {
-    let n = if count < 9 { count } else { 9 };
-    &values[from..from + n]
+    &values[from..from + count.min(9)]
 }
 
-// The phases of a descriptor, read from what is kept of its lists and judged for a line of this spacing.
-pub fn phases_of(spacing: u32, reading: Reading) -> PhaseTable
-    ensures { result ≡ table_for spacing reading.tariff (lists_by (kept_of reading.counts reading.values)) }
-{
-    let tariff = reading.tariff;
-    let counts = reading.counts;
-    let held = reading.values;
-    let values: &[u32] = &held;
-    descriptor::phases_for(
-        spacing,
-        tariff,
-        kept(values, 90, counts[10]),
-        kept(values, 99, counts[11]),
-        kept(values, 108, counts[12]),
-        kept(values, 117, counts[13]),
-        kept(values, 126, counts[14]),
-        kept(values, 135, counts[15]),
-        kept(values, 144, counts[16]),
-    )
+impl Reading {
+    // The phases of a descriptor, read from what is kept of its lists and judged for a line of this spacing.
+    pub fn phases(&self, spacing: u32) -> PhaseTable
+        ensures { result ≡ table_for spacing self.now.tariff (lists_in self.now) }
+    {
+        let values: &[u32] = &self.values;
+        let counts = &self.counts;
+        descriptor::phases_for(
+            spacing,
+            self.tariff,
+            kept(values, 90, counts[10]),
+            kept(values, 99, counts[11]),
+            kept(values, 108, counts[12]),
+            kept(values, 117, counts[13]),
+            kept(values, 126, counts[14]),
+            kept(values, 135, counts[15]),
+            kept(values, 144, counts[16]),
+        )
+    }
 }
