@@ -3,23 +3,19 @@ ghost use Rattle.std.specs.Prelude.{◌≡◌};
 ghost use Rattle.line.specs.Lines.{describe_text_of};
 
 use super::{Answered, Line};
-use descriptor::Ruling;
 
 impl Line {
     // It is refused where it does not read, and then where it makes no sense; else it is the descriptor that it reads as.
     pub fn describe_text(self, text: &[u8]) -> Answered
         ensures { result ≡ describe_text_of self text.now }
     {
-        let reading = sg::read(text);
-        let ruling = reading.ruling;
-        match ruling {
-            Ruling::TurnedDown(refusal) => self.refusing(refusal),
-            Ruling::Allowed => {
-                let tariff = reading.tariff;
-                let burst = reading.burst;
-                let phases = outcomes::phases_of(self.spacing, reading);
-                self.described(tariff, phases, burst)
-            }
+        match sg::read(text) {
+            Err(why) => self.refusing(why),
+            Ok(reading) => self.described(
+                reading.tariff,
+                reading.phases(self.spacing),
+                reading.burst,
+            ),
         }
     }
 }

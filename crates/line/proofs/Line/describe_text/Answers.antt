@@ -2,8 +2,8 @@
 use Rattle.line.proofs.Described.{text-is}
 use Rattle.line.proofs.Line.describe_text.Goals as goal
 
-pub returns-in-TurnedDown : goal.returns-in-TurnedDown
-returns-in-TurnedDown c = rw (← text-is, ← c.read-reading.ensures, c.in-TurnedDown.is, c.refusing.ensures)
+pub returns-in-Err : goal.returns-in-Err
+returns-in-Err c = rw (← text-is, ← c.read.ensures, c.in-Err.is, c.refusing.ensures)
 
-pub returns-in-Allowed : goal.returns-in-Allowed
-returns-in-Allowed c = rw (← text-is, ← c.read-reading.ensures, c.in-Allowed.is, c.described.ensures, c.phases_of-phases.ensures)
+pub returns-in-Ok : goal.returns-in-Ok
+returns-in-Ok c = rw (← text-is, ← c.read.ensures, c.in-Ok.is, c.described.ensures, c.phases.ensures)
