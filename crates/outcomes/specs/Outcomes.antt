@@ -5,7 +5,8 @@ use Rattle.phase_lists.specs.Lists.{Lists}
 use Rattle.descriptor.specs.declared.Refusal.{Refusal}
 use Rattle.descriptor.specs.declared.Refusal.TheVariants.{Grammar, Content}
 use Rattle.grammar.specs.Meaning.{is_incomplete, tariff_by, burst_by, lists_by}
-use Rattle.notes.specs.Noting.{Notes, has_in}
+use Rattle.notes.specs.Noting.{has_in}
+use Rattle.notes.specs.declared.Notes.{Notes}
 use Rattle.outcomes.specs.declared.Reading.{Reading}
 
 -- the values that are kept of a slot

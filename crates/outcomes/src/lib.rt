@@ -4,11 +4,11 @@
 ghost use Rattle.std.specs.Prelude.{◌≡◌, ◌+◌, ◌≤◌, ◌<◌, min, length, take, drop};
 ghost use Rattle.descriptor.specs.Rulings.{table_for};
 ghost use Rattle.grammar.specs.Meaning.{has_lists, is_incomplete, first_or, tariff_by, burst_by};
-ghost use Rattle.notes.specs.Noting.{notes_with, has_in};
+ghost use Rattle.notes.specs.Noting.{has_in};
 ghost use Rattle.outcomes.specs.Outcomes.{kept_of, lists_in, answer_of};
 
 use descriptor::{BurstPart, Refusal, TariffPart};
-use notes::{Marks, has};
+use notes::Notes;
 use phase_lists::PhaseTable;
 
 // The parts of a descriptor that was read. The values of phase list k, from 0 on, stand from place 90 + 9 k on; there
@@ -22,101 +22,92 @@ pub struct Reading {
 }
 
 // Whether the seven lists of phsm are given.
-fn has_lists(counts: &[usize; 18]) -> bool
-    ensures { result ≡ has_lists (has_in counts.now) }
+fn has_lists(notes: &Notes) -> bool
+    ensures { result ≡ has_lists (has_in notes.now.counts) }
 {
-    has(counts, 10)
-        & (has(counts, 11)
-            & (has(counts, 12)
-                & (has(counts, 13) & (has(counts, 14) & (has(counts, 15) & has(counts, 16))))))
+    (10..17).all(|slot| notes.has(slot))
 }
 
 // Whether em stands beside phsm, em lacks its pri, or phsm one of its lists.
-fn is_incomplete(counts: &[usize; 18]) -> bool
-    ensures { result ≡ is_incomplete (has_in counts.now) }
+fn is_incomplete(notes: &Notes) -> bool
+    ensures { result ≡ is_incomplete (has_in notes.now.counts) }
 {
-    let em = has(counts, 0);
-    let phsm = has(counts, 8);
-    (em & phsm) | ((em & !has(counts, 2)) | (phsm & !has_lists(counts)))
+    let em = notes.has(0);
+    let phsm = notes.has(8);
+    (em && phsm) || (em && !notes.has(2)) || (phsm && !has_lists(notes))
 }
 
 // The number that was given for a name, or a default.
-fn number(counts: &[usize; 18], values: &[u32; 162], slot: usize, default: u32) -> u32
-    requires { (slot < 18) × (length values.now ≡ 162) }
-    ensures { result ≡ first_or default (kept_of counts.now values.now slot) }
+fn number(notes: &Notes, slot: usize, default: u32) -> u32
+    requires { slot < 18 }
+    ensures { result ≡ first_or default (kept_of notes.now.counts notes.now.values slot) }
 {
-    if has(counts, slot) {
-        return values[slot * 9];
+    if notes.has(slot) {
+        notes.values[slot * 9]
+    } else {
+        default
     }
-    default
 }
 
 // The tariff part: em with KA is a rate, or keep where pc is above 0.
-fn tariff(counts: &[usize; 18], values: &[u32; 162]) -> TariffPart
-    requires { length values.now ≡ 162 }
-    ensures { result ≡ tariff_by (has_in counts.now) (kept_of counts.now values.now) }
+fn tariff(notes: &Notes) -> TariffPart
+    ensures { result ≡ tariff_by (has_in notes.now.counts) (kept_of notes.now.counts notes.now.values) }
 {
-    let pri = number(counts, values, 2, 0);
-    let pc = number(counts, values, 3, 0);
-    if has(counts, 0) {
-        if has(counts, 1) {
-            if pc > 0 {
-                return TariffPart::Keep;
-            }
-            return TariffPart::Rate { interval: pri };
+    let pri = number(notes, 2, 0);
+    let pc = number(notes, 3, 0);
+    if notes.has(0) {
+        if !notes.has(1) {
+            return TariffPart::Em {
+                count: pc,
+                period: pri,
+            };
         }
-        return TariffPart::Em {
-            count: pc,
-            period: pri,
-        };
-    }
-    if has(counts, 8) {
-        if has(counts, 9) {
+        if pc > 0 {
             return TariffPart::Keep;
         }
-        return TariffPart::Phased;
+        return TariffPart::Rate { interval: pri };
     }
-    TariffPart::None
+    if !notes.has(8) {
+        return TariffPart::None;
+    }
+    if notes.has(9) {
+        return TariffPart::Keep;
+    }
+    TariffPart::Phased
 }
 
 // The burst part.
-fn burst(counts: &[usize; 18], values: &[u32; 162]) -> BurstPart
-    requires { length values.now ≡ 162 }
-    ensures { result ≡ burst_by (has_in counts.now) (kept_of counts.now values.now) }
+fn burst(notes: &Notes) -> BurstPart
+    ensures { result ≡ burst_by (has_in notes.now.counts) (kept_of notes.now.counts notes.now.values) }
 {
-    if has(counts, 4) {
-        if has(counts, 5) {
-            return BurstPart::Keep;
-        }
-        return BurstPart::Start {
-            pulses: number(counts, values, 6, 1),
-            interval: number(counts, values, 7, 1),
-        };
+    if !notes.has(4) {
+        return BurstPart::None;
     }
-    BurstPart::None
+    if notes.has(5) {
+        return BurstPart::Keep;
+    }
+    BurstPart::Start {
+        pulses: number(notes, 6, 1),
+        interval: number(notes, 7, 1),
+    }
 }
 
 // What the bytes amount to, by whether they are a whole text, and by what was noted of it.
 #[tactic(auto, unfolding(crate::specs::Outcomes::answer_of, crate::specs::Outcomes::outcome_of))]
-pub fn answer(
-    whole: bool,
-    marks: Marks,
-    counts: [usize; 18],
-    values: [u32; 162],
-) -> Result<Reading, Refusal>
-    ensures { result ≡ answer_of whole (notes_with marks counts values) }
+pub fn answer(whole: bool, notes: &Notes) -> Result<Reading, Refusal>
+    ensures { result ≡ answer_of whole notes.now }
 {
     if !whole {
         return Err(Refusal::Grammar);
     }
-    if marks.bad | is_incomplete(&counts) {
+    if notes.bad || is_incomplete(notes) {
         return Err(Refusal::Content);
     }
     Ok(Reading {
-        tariff: tariff(&counts, &values),
-        burst: burst(&counts, &values),
-        counts,
-        values,
+        tariff: tariff(notes),
+        burst: burst(notes),
+        counts: notes.counts,
+        values: notes.values,
     })
 }
 

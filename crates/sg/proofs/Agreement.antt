@@ -14,7 +14,8 @@ use Rattle.grammar.specs.Reader.{Found, found, missing, text_of}
 use Rattle.grammar.specs.Meaning.{Given, has, values_of, any_faulty, is_incomplete, is_senseless, first_or, tariff_by, burst_by, lists_by}
 use Rattle.grammar.specs.Meaning.{Reading as Meant, unreadable, senseless, descriptor, meaning_of, reading_in, reading_of}
 use Rattle.grammar.proofs.Readings.{found-says}
-use Rattle.notes.specs.Noting.{Notes, has_in}
+use Rattle.notes.specs.Noting.{has_in}
+use Rattle.notes.specs.declared.Notes.{Notes}
 use Rattle.sg.specs.Readings.{text_notes, read_in, read_of}
 use Rattle.outcomes.specs.Outcomes.{kept_of, lists_in, outcome_of}
 use Rattle.outcomes.specs.declared.Reading.{Reading}

@@ -13,7 +13,8 @@ use Rattle.grammar.specs.Grammar.{none, ◌▹◌, bytes}
 use Rattle.grammar.specs.Reader.{nothing, begun, to_signal, to_name, named, to_item, item_named, to_value, item_read, to_number, number_read, signal_read, whole, wrong, class_of, Scan, fresh, gap, in_sg, in_ka, in_name, in_number, scan, scans, text_in, text_of}
 use Rattle.grammar.proofs.Complete.{scans_append}
 use Rattle.descriptor.specs.declared.Refusal.TheVariants.{Grammar}
-use Rattle.notes.specs.Noting.{Notes, note_of}
+use Rattle.notes.specs.Noting.{note_of}
+use Rattle.notes.specs.declared.Notes.{Notes}
 use Rattle.scanner.specs.Codes.{code_of}
 use Rattle.scanner.specs.Machine.{next_of, class_no, is_whole, closed_of, ended_or, turn_to, lost_turn, begin_of, spaced_to, last_of, turn_on, turn_of}
 use Rattle.outcomes.specs.Outcomes.{outcome_of, answer_of}

@@ -5,7 +5,8 @@ use Rattle.descriptor.specs.declared.Refusal.TheVariants.{Grammar}
 use Rattle.grammar.specs.Grammar.{Row, none, ◌▹◌, single, list, Item, keep, valued}
 use Rattle.grammar.specs.Grammar.{Signal, bare, braced, Text, empty, signals}
 use Rattle.grammar.specs.Reader.{Found, found, missing, text_of}
-use Rattle.notes.specs.Noting.{Notes, no_notes, value_of, signal_of, item_of, keep_of, single_of, list_of}
+use Rattle.notes.specs.Noting.{no_notes, value_of, signal_of, item_of, keep_of, single_of, list_of}
+use Rattle.notes.specs.declared.Notes.{Notes}
 use Rattle.scanner.specs.Codes.{code_of, number_of}
 use Rattle.outcomes.specs.Outcomes.{outcome_of}
 use Rattle.outcomes.specs.declared.Reading.{Reading}

@@ -5,7 +5,7 @@ ghost use Rattle.std.specs.Prelude.{◌≡◌};
 ghost use Rattle.sg.specs.Readings.{read_of};
 
 use descriptor::Refusal;
-use notes::Marks;
+use notes::Notes;
 use outcomes::Reading;
 use scanner::Scanner;
 
@@ -13,24 +13,15 @@ use scanner::Scanner;
 pub fn read(text: &[u8]) -> Result<Reading, Refusal>
     ensures { result ≡ read_of text.now }
 {
-    let mut counts = [0usize; 18];
-    let mut values = [0u32; 162];
     let mut scanner = Scanner::fresh();
-    let mut marks = Marks::none();
+    let mut notes = Notes::none();
     for &b in text {
         let turn = scanner.step(b);
         scanner = turn.scanner;
         if scanner.place == scanner::WRONG {
             return Err(Refusal::Grammar);
         }
-        marks = notes::note(
-            marks,
-            turn.place,
-            turn.kind,
-            turn.value,
-            &mut counts,
-            &mut values,
-        );
+        notes.note(turn.place, turn.kind, turn.value);
     }
-    outcomes::answer(scanner.is_whole(), marks, counts, values)
+    outcomes::answer(scanner.is_whole(), &notes)
 }

@@ -1,6 +1,5 @@
 -- `read` meets its contract.
 use Rattle.std.proofs.Common.{Bool, ap, ◌∙◌, arith}
-use Rattle.notes.specs.Noting.{notes_with}
 use Rattle.outcomes.specs.Outcomes.{answer_of}
 use Rattle.sg.proofs.Loop.{refuses, scanner-next, notes-next, answers}
 use Rattle.sg.proofs.read.Goals as goal
@@ -18,12 +17,12 @@ loop-b-preserved c =
       scanner-is = scanner-next text l.b-index l.scanner c.step-turn.result (omega arith) l.invariant.scanner-is c.step-turn.ensures;
       notes-are =
           notes-next text l.b-index l.scanner c.step-turn.result (omega arith) l.invariant.scanner-is c.step-turn.ensures l.invariant.notes-are
-          c.if-scanner-eq-WRONG.false c.note-marks.ensures;
+          c.if-scanner-eq-WRONG.false c.note.ensures;
     }
 
 pub returns : goal.returns
 returns c =
     let l = c.loop-b in
     c.answer.ensures
-    ∙ ap (λ (w : Bool). answer_of w (notes_with l.marks l.counts l.values)) c.is_whole.ensures
+    ∙ ap (λ (w : Bool). answer_of w l.notes) c.is_whole.ensures
     ∙ answers c.args.text.now l.b-index l.scanner (omega arith) l.invariant.scanner-is l.invariant.notes-are
