@@ -13,7 +13,8 @@ use Rattle.phase_lists.proofs.PhaseTables.{sound-table}
 use Rattle.descriptor.specs.Refusals.{ruling, tariff_causes, burst_causes, descriptor_causes}
 use Rattle.descriptor.specs.Rulings.{table_for}
 use Rattle.descriptor.specs.Names.{Ruling}
-use Rattle.std.specs.Prelude.{Ok, Err}
+use Rattle.std.specs.Prelude.{Result, Ok, Err}
+use Rattle.descriptor.specs.declared.Refusal.{Refusal}
 use Rattle.descriptor.specs.declared.TariffPart.{TariffPart}
 use Rattle.descriptor.specs.declared.TariffPart.TheVariants.{None as NoTariff, Keep as KeepTariff, Rate, Em, Phased}
 use Rattle.descriptor.specs.declared.BurstPart.{BurstPart}
@@ -22,8 +23,8 @@ use Rattle.descriptor.specs.Cancelled.{cancelled_by}
 use Rattle.line.specs.Lines.{tariff_changed, refusing, answered_by, described_by, describe_of, read_answer, describe_text_of}
 use Rattle.line.specs.declared.Answered.{Answered}
 use Rattle.line.specs.declared.Line.{Line}
-use Rattle.grammar.specs.Meaning.{lists_by, Reading as Meant, unreadable, senseless, descriptor, reading_of}
-use Rattle.outcomes.specs.Outcomes.{kept_of}
+use Rattle.grammar.specs.Meaning.{Reading as Meant, unreadable, senseless, descriptor, reading_of}
+use Rattle.outcomes.specs.Outcomes.{lists_in}
 use Rattle.outcomes.specs.declared.Reading.{Reading}
 use Rattle.sg.specs.Readings.{read_of}
 use Rattle.sg.proofs.Agreement.{Agrees, agrees}
@@ -68,17 +69,18 @@ describe_nine l (Em C P) ls p = refl
 describe_nine l Phased ls p = cases (sound_lists ls) (λ t. ap (λ (ms : Lists). describe_of l Phased ms p) (nine_whole ls t)) (λ t. rw (sound_nine ls, t))
 
 -- what the code makes of a reading
-abbrev taken : Line → Ruling → Reading → Answered
-taken l (Err r) q = refusing l r
-taken l (Ok tt) q = described_by l q.tariff (table_for l.spacing q.tariff (lists_by (kept_of q.counts q.values))) q.burst
+abbrev taken : Line → Result Reading Refusal → Answered
+taken l (Err r) = refusing l r
+taken l (Ok q) = described_by l q.tariff (table_for l.spacing q.tariff (lists_in q)) q.burst
 
-read_is : (l : Line) (m : Meant) (q : Reading) → Agrees m q → taken l q.ruling q ≡ read_answer l m
-read_is l unreadable q h = ap (λ (p : Reading). taken l p.ruling p) h
-read_is l senseless q h = ap (λ (p : Reading). taken l p.ruling p) h
-read_is l (descriptor t ls b) q h =
-    rw (h.0, h.1, h.2, h.3) (describe-is l t (first_places ls 9) b ∙ describe_nine l t ls b)
+read_is : (l : Line) (m : Meant) (r : Result Reading Refusal) → Agrees m r → taken l r ≡ read_answer l m
+read_is l unreadable r h = ap (taken l) h
+read_is l senseless r h = ap (taken l) h
+read_is l (descriptor t ls b) (Err r) h = absurd h
+read_is l (descriptor t ls b) (Ok q) h =
+    rw (h.0, h.1, h.2) (describe-is l t (first_places ls 9) b ∙ describe_nine l t ls b)
 
 -- a text's answer from what the reader keeps of it is its answer from its whole lists
-pub text-is : (l : Line) (text : List ℕ) → taken l (read_of text).ruling (read_of text) ≡ describe_text_of l text
+pub text-is : (l : Line) (text : List ℕ) → taken l (read_of text) ≡ describe_text_of l text
 unfolding describe_text_of
 text-is l text = read_is l (reading_of text) (read_of text) (agrees text)

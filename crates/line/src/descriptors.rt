@@ -115,12 +115,11 @@ impl Line {
     fn described_by_text(self, text: &[u8]) -> Answered
         ensures { result ≡ describe_text_of self text.now }
     {
-        let reading = sg::read(text);
-        match reading.ruling {
+        match sg::read(text) {
             Err(why) => self.refusing(why),
-            Ok(()) => {
-                let phases = outcomes::phases_of(self.spacing, reading);
-                self.described(reading.tariff, phases, reading.burst)
+            Ok(reading) => {
+                let table = reading.phases(self.spacing);
+                self.described(reading.tariff, table, reading.burst)
             }
         }
     }

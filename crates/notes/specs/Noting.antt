@@ -4,7 +4,7 @@ use Rattle.std.specs.Prelude.{replicate}
 use Rattle.grammar.specs.Grammar.{bytes}
 use Rattle.scanner.specs.Codes.{code_of}
 use Rattle.grammar.specs.Meaning.{Known, ◌↣◌, unknown, known_signals, items_of, keep_slot, is_list}
-use Rattle.notes.specs.declared.Marks.{Marks}
+use Rattle.notes.specs.declared.Notes.{Notes}
 
 -- ---- names
 
@@ -21,23 +21,8 @@ item_slot s c = slot_in (items_of s) c
 
 -- ---- notes
 
--- whether a fault was met; the slots of the signal and of the name that is being read; for each of the 18 slots how
--- many values it has, and nine of them
-pub record Notes : Type 0 where
-  pub bad : Bool
-  pub signal : ℕ
-  pub slot : ℕ
-  pub counts : List ℕ
-  pub values : List ℕ
-
-abbrev pub notes_with : Marks → List ℕ → List ℕ → Notes
-notes_with m c v = record { bad = m.bad; signal = m.signal; slot = m.slot; counts = c; values = v }
-
-abbrev pub no_marks : Marks
-no_marks = record { bad = false; signal = unknown; slot = unknown }
-
 abbrev pub no_notes : Notes
-no_notes = notes_with no_marks (replicate 18 0) (replicate 162 0)
+no_notes = record { bad = false; signal = unknown; slot = unknown; counts = replicate 18 0; values = replicate 162 0 }
 
 abbrev pub count_in : List ℕ → ℕ → ℕ
 count_in c s = cond (ltb s 18) (get_or c s 0) 0
@@ -46,17 +31,10 @@ abbrev pub has_in : List ℕ → ℕ → Bool
 has_in c s = ltb 0 (count_in c s)
 
 -- with a fault, if there is one
-abbrev pub marked_by : Marks → Bool → Marks
-marked_by m t = record { bad = m.bad || t; signal = m.signal; slot = m.slot }
-
--- with a name: a fault where it is unknown, or was there before
-abbrev pub touched_by : Marks → List ℕ → ℕ → Marks
-touched_by m c s = record { bad = m.bad || (eqb s unknown || has_in c s); signal = m.signal; slot = s }
-
--- the same of all notes
 abbrev pub marked_of : Notes → Bool → Notes
 marked_of n t = record { bad = n.bad || t; signal = n.signal; slot = n.slot; counts = n.counts; values = n.values }
 
+-- with a name: a fault where it is unknown, or was there before
 abbrev pub touch_of : Notes → ℕ → Notes
 touch_of n s =
     record {

@@ -2,150 +2,126 @@
 #![tactic(auto)]
 
 ghost use Rattle.std.specs.Prelude.{◌≡◌};
-ghost use Rattle.notes.specs.Noting.{notes_with, no_marks, count_in, has_in, marked_by, touched_by, stored_of, value_of, signal_of, keep_of, note_of};
+ghost use Rattle.notes.specs.Noting.{no_notes, has_in, marked_of, touch_of, stored_of, value_of, signal_of, keep_of, note_of};
 
 mod names;
-
-// The largest number.
-const TOP: u64 = 4294967295;
 
 // The places before a signal's name, and before a value.
 const TO_SIGNAL: u8 = 4;
 
 const TO_VALUE: u8 = 8;
 
-// Whether a fault was met, and the slots of the signal and of the name that is being read.
+// Whether a fault was met; the slots of the signal and of the name that is being read; how many values each of the 18
+// slots has, and nine places for the values of each.
 #[derive(Clone, Copy)]
-pub struct Marks {
+pub struct Notes {
     pub bad: bool,
     pub signal: usize,
     pub slot: usize,
+    pub counts: [usize; 18],
+    pub values: [u32; 162],
 }
 
-fn count_at(counts: &[usize; 18], slot: usize) -> usize
-    ensures { result ≡ count_in counts.now slot }
-{
-    if slot < 18 {
-        return counts[slot];
-    }
-    0
-}
-
-// Whether a name was given.
-pub fn has(counts: &[usize; 18], slot: usize) -> bool
-    ensures { result ≡ has_in counts.now slot }
-{
-    count_at(counts, slot) > 0
-}
-
-impl Marks {
-    pub fn none() -> Marks
-        ensures { result ≡ no_marks }
+impl Notes {
+    // Those of no text yet.
+    pub fn none() -> Notes
+        ensures { result ≡ no_notes }
     {
-        Marks {
+        Notes {
             bad: false,
             signal: names::UNKNOWN,
             slot: names::UNKNOWN,
+            counts: [0; 18],
+            values: [0; 162],
         }
     }
 
-    // With a fault, if there is one.
-    fn marked(self, fault: bool) -> Marks
-        ensures { result ≡ marked_by self fault }
+    // Whether a name was given.
+    pub fn has(&self, slot: usize) -> bool
+        ensures { result ≡ has_in self.now.counts slot }
     {
-        Marks {
-            bad: self.bad | fault,
-            ..self
-        }
+        slot < 18 && self.counts[slot] > 0
     }
 
-    // With a name: a fault where it is unknown, or was there before.
-    fn touched(self, slot: usize, counts: &[usize; 18]) -> Marks
-        ensures { result ≡ touched_by self counts.now slot }
+    // Notes a fault, if there is one.
+    fn mark(&mut self, fault: bool)
+        ensures { self.new ≡ marked_of self.old fault }
     {
-        let there = has(counts, slot);
-        Marks {
-            bad: self.bad | ((slot == names::UNKNOWN) | there),
-            signal: self.signal,
-            slot,
+        self.bad |= fault;
+    }
+
+    // Notes a name: a fault where it is unknown, or was there before.
+    fn touch(&mut self, slot: usize)
+        ensures { self.new ≡ touch_of self.old slot }
+    {
+        self.mark((slot == names::UNKNOWN) | self.has(slot));
+        self.slot = slot;
+    }
+
+    // Stores a value of the slot. Past nine it is left out.
+    fn store(&mut self, v: u32)
+        ensures { self.new ≡ stored_of self.old v }
+    {
+        let slot = self.slot;
+        if slot < 18 {
+            let count = self.counts[slot];
+            if count < 9 {
+                self.values[slot * 9 + count] = v;
+                self.counts[slot] = count + 1;
+            }
         }
     }
-}
 
-// Stores a value of the slot. Past nine it is left out.
-fn store(m: Marks, v: u32, counts: &mut [usize; 18], values: &mut [u32; 162])
-    ensures { notes_with m counts.new values.new ≡ stored_of (notes_with m counts.old values.old) v }
-{
-    let slot = m.slot;
-    if slot < 18 {
-        let count = counts[slot];
-        if count < 9 {
-            let at = slot * 9 + count;
-            values[at] = v;
-            counts[slot] = count + 1;
+    // Notes a number. One that is above the largest is a fault.
+    fn value(&mut self, v: u64)
+        ensures { self.new ≡ value_of self.old v }
+    {
+        match u32::try_from(v) {
+            Ok(v) => self.store(v),
+            Err(_) => self.mark(true),
         }
     }
-}
 
-// Notes a number. One above the largest is a fault.
-fn value(m: Marks, v: u64, counts: &mut [usize; 18], values: &mut [u32; 162]) -> Marks
-    ensures { notes_with result counts.new values.new ≡ value_of (notes_with m counts.old values.old) v }
-{
-    if v > TOP {
-        return m.marked(true);
+    // Notes a signal's name.
+    fn signal(&mut self, code: u64)
+        ensures { self.new ≡ signal_of self.old code }
+    {
+        let slot = names::signal_slot(code);
+        self.touch(slot);
+        self.store(1);
+        self.signal = slot;
     }
-    store(m, v as u32, counts, values);
-    m
-}
 
-// Notes a signal's name.
-fn signal(m: Marks, code: u64, counts: &mut [usize; 18], values: &mut [u32; 162]) -> Marks
-    ensures { notes_with result counts.new values.new ≡ signal_of (notes_with m counts.old values.old) code }
-{
-    let slot = names::signal_slot(code);
-    let n = m.touched(slot, counts);
-    store(n, 1, counts, values);
-    Marks { signal: slot, ..n }
-}
+    // Notes KA.
+    fn keep(&mut self)
+        ensures { self.new ≡ keep_of self.old }
+    {
+        self.touch(names::keep_slot(self.signal));
+        self.store(1);
+    }
 
-// Notes KA.
-fn keep(m: Marks, counts: &mut [usize; 18], values: &mut [u32; 162]) -> Marks
-    ensures { notes_with result counts.new values.new ≡ keep_of (notes_with m counts.old values.old) }
-{
-    let n = m.touched(names::keep_slot(m.signal), counts);
-    store(n, 1, counts, values);
-    n
-}
-
-// Notes what a piece of a kind says at its place.
-#[tactic(auto, unfolding(crate::specs::Noting::note_of))]
-pub fn note(
-    m: Marks,
-    place: u8,
-    kind: u8,
-    v: u64,
-    counts: &mut [usize; 18],
-    values: &mut [u32; 162],
-) -> Marks
-    ensures { notes_with result counts.new values.new ≡ note_of (notes_with m counts.old values.old) place kind v }
-{
-    if kind == scanner::NAME {
-        if place == TO_SIGNAL {
-            return signal(m, v, counts, values);
+    // Notes what a piece of a kind says at its place.
+    #[tactic(auto, unfolding(crate::specs::Noting::note_of))]
+    pub fn note(&mut self, place: u8, kind: u8, v: u64)
+        ensures { self.new ≡ note_of self.old place kind v }
+    {
+        match kind {
+            scanner::NAME => {
+                if place == TO_SIGNAL {
+                    self.signal(v);
+                } else {
+                    self.touch(names::item_slot(self.signal, v));
+                }
+            }
+            scanner::NUMBER => {
+                if place == TO_VALUE {
+                    self.mark(names::is_list(self.slot));
+                }
+                self.value(v);
+            }
+            scanner::KA => self.keep(),
+            scanner::LIST => self.mark(!names::is_list(self.slot)),
+            _ => {}
         }
-        return m.touched(names::item_slot(m.signal, v), counts);
     }
-    if kind == scanner::NUMBER {
-        if place == TO_VALUE {
-            return value(m.marked(names::is_list(m.slot)), v, counts, values);
-        }
-        return value(m, v, counts, values);
-    }
-    if kind == scanner::KA {
-        return keep(m, counts, values);
-    }
-    if kind == scanner::LIST {
-        return m.marked(!names::is_list(m.slot));
-    }
-    m
 }

@@ -21,97 +21,69 @@ const PRI: u64 = 16969;
 pub(crate) fn signal_slot(code: u64) -> usize
     ensures { result ≡ signal_slot code }
 {
-    if code == 173 {
-        return EM;
+    match code {
+        173 => EM,
+        13826 => MPB,
+        533101 => PHSM,
+        _ => UNKNOWN,
     }
-    if code == 13826 {
-        return MPB;
-    }
-    if code == 533101 {
-        return PHSM;
-    }
-    UNKNOWN
 }
 
 // The slots of the items of em: pri and pc.
 fn em_item(code: u64) -> usize
     ensures { result ≡ slot_in em_items code }
 {
-    if code == PRI {
-        return 2;
+    match code {
+        PRI => 2,
+        515 => 3,
+        _ => UNKNOWN,
     }
-    if code == 515 {
-        return 3;
-    }
-    UNKNOWN
 }
 
 // The slots of the items of mpb: bpc and pri.
 fn mpb_item(code: u64) -> usize
     ensures { result ≡ slot_in mpb_items code }
 {
-    if code == 2563 {
-        return 6;
+    match code {
+        2563 => 6,
+        PRI => 7,
+        _ => UNKNOWN,
     }
-    if code == PRI {
-        return 7;
-    }
-    UNKNOWN
 }
 
 // The slots of the items of phsm: pri, pcx, repx, pcn, repn, ci and pd.
 fn phsm_item(code: u64) -> usize
     ensures { result ≡ slot_in phsm_items code }
 {
-    if code == PRI {
-        return 10;
+    match code {
+        PRI => 10,
+        16504 => 11,
+        595480 => 12,
+        16494 => 13,
+        595470 => 14,
+        105 => 15,
+        516 => 16,
+        _ => UNKNOWN,
     }
-    if code == 16504 {
-        return 11;
-    }
-    if code == 595480 {
-        return 12;
-    }
-    if code == 16494 {
-        return 13;
-    }
-    if code == 595470 {
-        return 14;
-    }
-    if code == 105 {
-        return 15;
-    }
-    if code == 516 {
-        return 16;
-    }
-    UNKNOWN
 }
 
 // The slot of an item in the signal that has this slot.
 pub(crate) fn item_slot(signal: usize, code: u64) -> usize
     ensures { result ≡ item_slot signal code }
 {
-    if signal == EM {
-        return em_item(code);
+    match signal {
+        EM => em_item(code),
+        MPB => mpb_item(code),
+        PHSM => phsm_item(code),
+        _ => UNKNOWN,
     }
-    if signal == MPB {
-        return mpb_item(code);
-    }
-    if signal == PHSM {
-        return phsm_item(code);
-    }
-    UNKNOWN
 }
 
 // The slot of KA in the signal that has this slot.
 pub(crate) fn keep_slot(signal: usize) -> usize
     ensures { result ≡ keep_slot signal }
 {
-    if signal < UNKNOWN {
-        signal + 1
-    } else {
-        UNKNOWN
-    }
+    signal.saturating_add(1).min(UNKNOWN)
 }
 
 pub(crate) fn is_list(slot: usize) -> bool

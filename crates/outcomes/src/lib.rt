@@ -3,133 +3,112 @@
 
 ghost use Rattle.std.specs.Prelude.{◌≡◌, ◌+◌, ◌≤◌, ◌<◌, min, length, take, drop};
 ghost use Rattle.descriptor.specs.Rulings.{table_for};
-ghost use Rattle.grammar.specs.Meaning.{has_lists, is_incomplete, first_or, tariff_by, burst_by, lists_by};
-ghost use Rattle.notes.specs.Noting.{notes_with, has_in};
-ghost use Rattle.outcomes.specs.Outcomes.{kept_of, refused_as, answer_of};
+ghost use Rattle.grammar.specs.Meaning.{has_lists, is_incomplete, first_or, tariff_by, burst_by};
+ghost use Rattle.notes.specs.Noting.{has_in};
+ghost use Rattle.outcomes.specs.Outcomes.{kept_of, lists_in, answer_of};
 
-use descriptor::{BurstPart, Refusal, Ruling, TariffPart};
-use notes::{Marks, has};
+use descriptor::{BurstPart, Refusal, TariffPart};
+use notes::Notes;
 use phase_lists::{PhaseLists, PhaseTable};
 
-// A refusal, or the parts of a descriptor. The values of phase list k, from 0 on, stand from place 90 + 9 k on; there
+// The parts of a descriptor that was read. The values of phase list k, from 0 on, stand from place 90 + 9 k on; there
 // are as many as counts[10 + k] says. Of a list that is longer than nine, nine are kept.
 #[derive(Clone, Copy)]
 pub struct Reading {
-    pub ruling: Ruling,
     pub tariff: TariffPart,
     pub burst: BurstPart,
     pub counts: [usize; 18],
     pub values: [u32; 162],
 }
 
-// A text that is refused.
-pub fn refused(why: Refusal) -> Reading
-    ensures { result ≡ refused_as why }
-{
-    Reading {
-        ruling: Err(why),
-        tariff: TariffPart::None,
-        burst: BurstPart::None,
-        counts: [0; 18],
-        values: [0; 162],
-    }
-}
-
 // Whether the seven lists of phsm are given.
-fn has_lists(counts: &[usize; 18]) -> bool
-    ensures { result ≡ has_lists (has_in counts.now) }
+fn has_lists(notes: &Notes) -> bool
+    ensures { result ≡ has_lists (has_in notes.now.counts) }
 {
-    has(counts, 10)
-        & (has(counts, 11)
-            & (has(counts, 12)
-                & (has(counts, 13) & (has(counts, 14) & (has(counts, 15) & has(counts, 16))))))
+    (10..17).all(|slot| notes.has(slot))
 }
 
 // Whether em stands beside phsm, em lacks its pri, or phsm one of its lists.
-fn is_incomplete(counts: &[usize; 18]) -> bool
-    ensures { result ≡ is_incomplete (has_in counts.now) }
+fn is_incomplete(notes: &Notes) -> bool
+    ensures { result ≡ is_incomplete (has_in notes.now.counts) }
 {
-    let em = has(counts, 0);
-    let phsm = has(counts, 8);
-    (em & phsm) | ((em & !has(counts, 2)) | (phsm & !has_lists(counts)))
+    let em = notes.has(0);
+    let phsm = notes.has(8);
+    (em && phsm) || (em && !notes.has(2)) || (phsm && !has_lists(notes))
 }
 
 // The number that was given for a name, or a default.
-fn number(counts: &[usize; 18], values: &[u32; 162], slot: usize, default: u32) -> u32
-    requires { (slot < 18) × (length values.now ≡ 162) }
-    ensures { result ≡ first_or default (kept_of counts.now values.now slot) }
+fn number(notes: &Notes, slot: usize, default: u32) -> u32
+    requires { slot < 18 }
+    ensures { result ≡ first_or default (kept_of notes.now.counts notes.now.values slot) }
 {
-    if has(counts, slot) {
-        return values[slot * 9];
+    if notes.has(slot) {
+        notes.values[slot * 9]
+    } else {
+        default
     }
-    default
 }
 
 // The tariff part: em with KA is a rate, or keep where pc is above 0.
-fn tariff(counts: &[usize; 18], values: &[u32; 162]) -> TariffPart
-    requires { length values.now ≡ 162 }
-    ensures { result ≡ tariff_by (has_in counts.now) (kept_of counts.now values.now) }
+fn tariff(notes: &Notes) -> TariffPart
+    ensures { result ≡ tariff_by (has_in notes.now.counts) (kept_of notes.now.counts notes.now.values) }
 {
-    let pri = number(counts, values, 2, 0);
-    let pc = number(counts, values, 3, 0);
-    if has(counts, 0) {
-        if has(counts, 1) {
-            if pc > 0 {
-                return TariffPart::Keep;
-            }
-            return TariffPart::Rate { interval: pri };
+    let pri = number(notes, 2, 0);
+    let pc = number(notes, 3, 0);
+    if notes.has(0) {
+        if !notes.has(1) {
+            return TariffPart::Em {
+                count: pc,
+                period: pri,
+            };
         }
-        return TariffPart::Em {
-            count: pc,
-            period: pri,
-        };
-    }
-    if has(counts, 8) {
-        if has(counts, 9) {
+        if pc > 0 {
             return TariffPart::Keep;
         }
-        return TariffPart::Phased;
+        return TariffPart::Rate { interval: pri };
     }
-    TariffPart::None
+    if !notes.has(8) {
+        return TariffPart::None;
+    }
+    if notes.has(9) {
+        return TariffPart::Keep;
+    }
+    TariffPart::Phased
 }
 
 // The burst part.
-fn burst(counts: &[usize; 18], values: &[u32; 162]) -> BurstPart
-    requires { length values.now ≡ 162 }
-    ensures { result ≡ burst_by (has_in counts.now) (kept_of counts.now values.now) }
+fn burst(notes: &Notes) -> BurstPart
+    ensures { result ≡ burst_by (has_in notes.now.counts) (kept_of notes.now.counts notes.now.values) }
 {
-    if has(counts, 4) {
-        if has(counts, 5) {
-            return BurstPart::Keep;
-        }
-        return BurstPart::Start {
-            pulses: number(counts, values, 6, 1),
-            interval: number(counts, values, 7, 1),
-        };
+    if !notes.has(4) {
+        return BurstPart::None;
     }
-    BurstPart::None
+    if notes.has(5) {
+        return BurstPart::Keep;
+    }
+    BurstPart::Start {
+        pulses: number(notes, 6, 1),
+        interval: number(notes, 7, 1),
+    }
 }
 
 // What the bytes amount to, by whether they are a whole text, and by what was noted of it.
-pub fn answer(whole: bool, marks: Marks, counts: [usize; 18], values: [u32; 162]) -> Reading
-    ensures { result ≡ answer_of whole (notes_with marks counts values) }
+#[tactic(auto, unfolding(crate::specs::Outcomes::answer_of, crate::specs::Outcomes::outcome_of))]
+pub fn answer(whole: bool, notes: &Notes) -> Result<Reading, Refusal>
+    ensures { result ≡ answer_of whole notes.now }
 {
-    let faulty = marks.bad | is_incomplete(&counts);
     if !whole {
-        return refused(Refusal::Grammar);
+        return Err(Refusal::Grammar);
     }
-    if faulty {
-        return refused(Refusal::Content);
+    if notes.bad || is_incomplete(notes) {
+        return Err(Refusal::Content);
     }
-    let tariff = tariff(&counts, &values);
-    let burst = burst(&counts, &values);
-    Reading {
-        ruling: Ok(()),
-        tariff,
-        burst,
-        counts,
-        values,
-    }
+    Ok(Reading {
+        tariff: tariff(notes),
+        burst: burst(notes),
+        counts: notes.counts,
+        values: notes.values,
+    })
 }
 
 // The values that are kept of a list, which stand from a place on.
@@ -137,26 +116,25 @@ fn kept(values: &[u32], from: usize, count: usize) -> &[u32]
     requires { from + 9 ≤ length values.now }
     ensures { result.now ≡ take (min count 9) (drop from values.now) }
 {
-    let n = if count < 9 { count } else { 9 };
-    &values[from..from + n]
+    &values[from..from + count.min(9)]
 }
 
-// The phases of a descriptor, read from what is kept of its lists and judged for a line of this spacing.
-pub fn phases_of(spacing: u32, reading: Reading) -> PhaseTable
-    ensures { result ≡ table_for spacing reading.tariff (lists_by (kept_of reading.counts reading.values)) }
-{
-    let tariff = reading.tariff;
-    let counts = reading.counts;
-    let held = reading.values;
-    let values: &[u32] = &held;
-    let lists = PhaseLists {
-        pri: kept(values, 90, counts[10]),
-        pcx: kept(values, 99, counts[11]),
-        repx: kept(values, 108, counts[12]),
-        pcn: kept(values, 117, counts[13]),
-        repn: kept(values, 126, counts[14]),
-        ci: kept(values, 135, counts[15]),
-        pd: kept(values, 144, counts[16]),
-    };
-    descriptor::phases_for(spacing, tariff, lists)
+impl Reading {
+    // The phases of a descriptor, read from what is kept of its lists and judged for a line of this spacing.
+    pub fn phases(&self, spacing: u32) -> PhaseTable
+        ensures { result ≡ table_for spacing self.now.tariff (lists_in self.now) }
+    {
+        let values: &[u32] = &self.values;
+        let counts = &self.counts;
+        let lists = PhaseLists {
+            pri: kept(values, 90, counts[10]),
+            pcx: kept(values, 99, counts[11]),
+            repx: kept(values, 108, counts[12]),
+            pcn: kept(values, 117, counts[13]),
+            repn: kept(values, 126, counts[14]),
+            ci: kept(values, 135, counts[15]),
+            pd: kept(values, 144, counts[16]),
+        };
+        descriptor::phases_for(spacing, self.tariff, lists)
+    }
 }

@@ -1,4 +1,5 @@
 -- The reader answers what a text asks for: its refusal, or its parts, with the first nine values of each phase list.
+use Rattle.std.specs.Prelude.{Result, Ok, Err}
 use Prim.Native.Nat.{ℕ, ◌*◌, ◌<◌, min}
 use native.Mathlib.Omega.{arith}
 use mathlib.Core.Bool.{Bool, true, false, cond, ◌||◌}
@@ -7,25 +8,26 @@ use mathlib.Core.Path.{◌≡◌, refl, ap, ◌∙◌}
 use lib.ListN.{length, get_or, take, drop}
 use Rattle.phase_lists.specs.Lists.{first_places}
 use Rattle.descriptor.specs.declared.Refusal.TheVariants.{Grammar, Content}
-use Rattle.std.specs.Prelude.{Ok}
+use Rattle.descriptor.specs.declared.Refusal.{Refusal}
 use Rattle.grammar.specs.Grammar.{Row}
 use Rattle.grammar.specs.Reader.{Found, found, missing, text_of}
 use Rattle.grammar.specs.Meaning.{Given, has, values_of, any_faulty, is_incomplete, is_senseless, first_or, tariff_by, burst_by, lists_by}
 use Rattle.grammar.specs.Meaning.{Reading as Meant, unreadable, senseless, descriptor, meaning_of, reading_in, reading_of}
 use Rattle.grammar.proofs.Readings.{found-says}
-use Rattle.notes.specs.Noting.{Notes, has_in}
+use Rattle.notes.specs.Noting.{has_in}
+use Rattle.notes.specs.declared.Notes.{Notes}
 use Rattle.sg.specs.Readings.{text_notes, read_in, read_of}
-use Rattle.outcomes.specs.Outcomes.{kept_of, refused_as, outcome_of}
+use Rattle.outcomes.specs.Outcomes.{kept_of, lists_in, outcome_of}
 use Rattle.outcomes.specs.declared.Reading.{Reading}
 use Rattle.sg.proofs.Told.{text_on, Tells, text-told}
 use Rattle.sg.proofs.Words.{given-named}
 
 -- what the reader answers is what was meant, with nine values at most of each list
-abbrev pub Agrees : Meant → Reading → Type 0
-Agrees unreadable r = r ≡ refused_as Grammar
-Agrees senseless r = r ≡ refused_as Content
-Agrees (descriptor t ls b) r =
-    (r.ruling ≡ Ok tt) × (r.tariff ≡ t) × (r.burst ≡ b) × (lists_by (kept_of r.counts r.values) ≡ first_places ls 9)
+abbrev pub Agrees : Meant → Result Reading Refusal → Type 0
+Agrees unreadable r = r ≡ Err Grammar
+Agrees senseless r = r ≡ Err Content
+Agrees (descriptor t ls b) (Err e) = ⊥
+Agrees (descriptor t ls b) (Ok r) = (r.tariff ≡ t) × (r.burst ≡ b) × (lists_in r ≡ first_places ls 9)
 
 first-kept : (d : ℕ) (l : List ℕ) → first_or d (take 9 l) ≡ first_or d l
 first-kept d [] = refl
@@ -67,22 +69,21 @@ agrees-told gs n h = rw h.told-bad (faulty (any_faulty gs) refl)
     meant : Meant
     meant = descriptor (tariff_by (has gs) (values_of gs)) (lists_by (values_of gs)) (burst_by (has gs) (values_of gs))
 
-    answer : Reading
+    answer : Result Reading Refusal
     answer =
-        record {
-          ruling = (Ok tt);
+        Ok (record {
           tariff = tariff_by (has_in n.counts) (kept_of n.counts n.values);
           burst = burst_by (has_in n.counts) (kept_of n.counts n.values);
           counts = n.counts;
           values = n.values;
-        }
+        })
 
-    complete : any_faulty gs ≡ false → (w : Bool) → Agrees (cond w senseless meant) (cond w (refused_as Content) answer)
+    complete : any_faulty gs ≡ false → (w : Bool) → Agrees (cond w senseless meant) (cond w (Err Content) answer)
     complete e true = refl
-    complete e false = (refl, tariff-told gs n h e, burst-told gs n h e, lists_told gs n h e)
+    complete e false = (tariff-told gs n h e, burst-told gs n h e, lists_told gs n h e)
 
     faulty : (w : Bool) → any_faulty gs ≡ w
-        → Agrees (cond (w || is_incomplete (has gs)) senseless meant) (cond (w || is_incomplete (has_in n.counts)) (refused_as Content) answer)
+        → Agrees (cond (w || is_incomplete (has gs)) senseless meant) (cond (w || is_incomplete (has_in n.counts)) (Err Content) answer)
     faulty true e = refl
     faulty false e = rw (incomplete_told gs n h e) (complete e (is_incomplete (has gs)))
 

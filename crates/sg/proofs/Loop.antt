@@ -1,4 +1,5 @@
 -- The reader's loop: the scanner and the notes after some bytes, and what is answered at the end.
+use Rattle.std.specs.Prelude.{Err}
 use Prim.Native.Nat.{ℕ, suc, ◌+◌, ◌<◌, ◌≤◌}
 use mathlib.Core.Bool.{Bool, true, false, cond, ◌||◌, ◌&&◌}
 use mathlib.Core.List.{List, [], ◌∷◌, ◌++◌, append-nil, append_assoc}
@@ -12,10 +13,11 @@ use Rattle.grammar.specs.Grammar.{none, ◌▹◌, bytes}
 use Rattle.grammar.specs.Reader.{nothing, begun, to_signal, to_name, named, to_item, item_named, to_value, item_read, to_number, number_read, signal_read, whole, wrong, class_of, Scan, fresh, gap, in_sg, in_ka, in_name, in_number, scan, scans, text_in, text_of}
 use Rattle.grammar.proofs.Complete.{scans_append}
 use Rattle.descriptor.specs.declared.Refusal.TheVariants.{Grammar}
-use Rattle.notes.specs.Noting.{Notes, note_of}
+use Rattle.notes.specs.Noting.{note_of}
+use Rattle.notes.specs.declared.Notes.{Notes}
 use Rattle.scanner.specs.Codes.{code_of}
 use Rattle.scanner.specs.Machine.{next_of, class_no, is_whole, closed_of, ended_or, turn_to, lost_turn, begin_of, spaced_to, last_of, turn_on, turn_of}
-use Rattle.outcomes.specs.Outcomes.{outcome_of, refused_as, answer_of}
+use Rattle.outcomes.specs.Outcomes.{outcome_of, answer_of}
 use Rattle.sg.specs.Readings.{read_in, read_of}
 use Rattle.scanner.specs.declared.Scanner.{Scanner}
 use Rattle.scanner.specs.declared.Turn.{Turn}
@@ -82,7 +84,7 @@ module _ (s : Scanner) (lost : s.place ≡ 14) where
 
 -- AT THE END
 
-pub ended : (s : Scan) → cond (is_whole (picture s)) (outcome_of (notes_in s)) (refused_as Grammar) ≡ read_in (text_in s)
+pub ended : (s : Scan) → cond (is_whole (picture s)) (outcome_of (notes_in s)) (Err Grammar) ≡ read_in (text_in s)
 ended fresh = refl
 ended (in_sg r) = refl
 ended (in_ka r) = refl
@@ -122,13 +124,13 @@ lost-scans (b ∷ l) done e =
     let k : (picture (scan s b)).place ≡ 14 = ap (λ (q : Scanner). q.place) (sym (step-leads b s (fine done)).scanner-is) ∙ h in
     rw (← append_assoc done (b ∷ []) l) (lost-scans l (done ++ (b ∷ [])) (rw (scans_append fresh done (b ∷ [])) k))
 
-pub lost-refused : (l : List ℕ) (i : ℕ) → (picture (after l i)).place ≡ 14 → read_in (text_in (scans fresh l)) ≡ refused_as Grammar
+pub lost-refused : (l : List ℕ) (i : ℕ) → (picture (after l i)).place ≡ 14 → read_in (text_in (scans fresh l)) ≡ Err Grammar
 lost-refused l i e =
     let k = lost-scans (drop i l) (take i l) e in
     let g : (picture (scans fresh l)).place ≡ 14 = rw (take-append-drop i l) at k in
     sym (ended (scans fresh l)) ∙ at (eqb (picture (scans fresh l)).mode 1) (picture (scans fresh l)).place g
   where
-    at : (t : Bool) (p : ℕ) → p ≡ 14 → cond (t && eqb p 13) (outcome_of (notes_in (scans fresh l))) (refused_as Grammar) ≡ refused_as Grammar
+    at : (t : Bool) (p : ℕ) → p ≡ 14 → cond (t && eqb p 13) (outcome_of (notes_in (scans fresh l))) (Err Grammar) ≡ Err Grammar
     at true p g = rw g
     at false p g = refl
 
@@ -141,7 +143,7 @@ module _ (text : List ℕ) (i : ℕ) (s : Scanner) (t : Turn) (inside : i < leng
       rw (turn, before, add-one, ← after_more text i inside) (leads-on text i)
 
   -- a turn where no text can be
-  pub refuses : t.scanner.place ≡ 14 → refused_as Grammar ≡ read_of text
+  pub refuses : t.scanner.place ≡ 14 → Err Grammar ≡ read_of text
   unfolding read_of text_of
   refuses e =
       sym (lost-refused text (i + 1) (ap (λ (q : Scanner). q.place) (sym leads.scanner-is) ∙ e))
@@ -162,7 +164,7 @@ pub answers : (text : List ℕ) (i : ℕ) (s : Scanner) {n : Notes} → length t
     → answer_of (is_whole s) n ≡ read_of text
 unfolding read_of text_of answer_of
 answers text i s {n} past e f =
-    ap (λ (q : Scanner). cond (is_whole q) (outcome_of n) (refused_as Grammar)) e
-    ∙ ap (λ (q : Notes). cond (is_whole (picture (after text i))) (outcome_of q) (refused_as Grammar)) f
+    ap (λ (q : Scanner). cond (is_whole q) (outcome_of n) (Err Grammar)) e
+    ∙ ap (λ (q : Notes). cond (is_whole (picture (after text i))) (outcome_of q) (Err Grammar)) f
     ∙ ended (after text i)
     ∙ ap (λ (l : List ℕ). read_in (text_in (scans fresh l))) (take_all i text past)

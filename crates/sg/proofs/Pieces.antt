@@ -8,7 +8,8 @@ use lib.Dec.{eqb}
 use lib.ListN.{get_or}
 use Rattle.grammar.specs.Grammar.{Row, none, ◌▹◌, Item, Signal, Piece}
 use Rattle.grammar.specs.Reader.{Read, nothing, begun, to_signal, to_name, named, to_item, item_named, to_value, item_read, to_number, number_read, signal_read, whole, wrong, kind_of, word_of, Option, ◌⇒◌, options, choose, feed, spaced}
-use Rattle.notes.specs.Noting.{Notes, no_notes, note_of, signal_of, item_of, value_of, list_of}
+use Rattle.notes.specs.Noting.{no_notes, note_of, signal_of, item_of, value_of, list_of}
+use Rattle.notes.specs.declared.Notes.{Notes}
 use Rattle.scanner.specs.Codes.{code_of, number_of}
 use Rattle.sg.specs.Readings.{numbers_notes, item_notes, items_notes, signal_notes, signals_notes, text_notes}
 use Rattle.scanner.specs.Machine.{Edge, ◌⇢◌, rows, target, next_of, spaced_to}

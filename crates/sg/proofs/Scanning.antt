@@ -10,7 +10,8 @@ use lib.Dec.{leb, ltb, eqb}
 use Rattle.grammar.specs.Grammar.{Piece, SG, amet/, KA, opens, shuts, from, to, comma, equals, name, number, bytes, same, is_small, is_digit, Small, Name, letter, letters}
 use Rattle.grammar.specs.Reader.{Read, nothing, wrong, kind_of, word_of, feed, spaced, Scan, fresh, gap, in_sg, in_ka, in_name, in_number, closed, Class, small, digit, blank, slash, S, G, K, A, other, mark, class_of, on_class, on_small, on_digit, on_blank, on_slash, on_g, on_a, scan, scans}
 use Rattle.grammar.proofs.Sound.{Seen, seen-small, seen-digit, seen-blank, seen-mark, seen_slash, seen-S, seen-G, seen-K, seen_A, seen_other, seen}
-use Rattle.notes.specs.Noting.{Notes, note_of}
+use Rattle.notes.specs.Noting.{note_of}
+use Rattle.notes.specs.declared.Notes.{Notes}
 use Rattle.scanner.specs.Codes.{code_of, number_of, next_letter, next_digit}
 use Rattle.scanner.specs.Machine.{next_of, class_no, fresh_scanner, turn_to, lost_turn, begin_of, letter_of, digit_of, spaced_to, blank_of, mark_of, last_of, turn_on, turn_of}
 use Rattle.scanner.specs.declared.Scanner.{Scanner}

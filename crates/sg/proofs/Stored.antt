@@ -10,7 +10,8 @@ use lib.ListN.{length, get_or, set, take, drop, length-set, length-append, lengt
 use lib.Seq.{get_or-set_same, get_or-set_other, take_all, take-append-le, take-suc-set, take-set-le, drop-set-lt, drop-set-add}
 use Rattle.grammar.specs.Grammar.{Row, none, ◌▹◌}
 use Rattle.grammar.specs.Meaning.{listed, any_too_large, values_by}
-use Rattle.notes.specs.Noting.{Notes, count_in, has_in, stored_of, value_of, marked_of, item_slot, signal_slot}
+use Rattle.notes.specs.Noting.{count_in, has_in, stored_of, value_of, marked_of, item_slot, signal_slot}
+use Rattle.notes.specs.declared.Notes.{Notes}
 use Rattle.scanner.specs.Codes.{number_of, code_of}
 use Rattle.sg.specs.Readings.{numbers_notes}
 

@@ -10,7 +10,8 @@ use lib.ListN.{length, get_or, replicate}
 use Rattle.tariff.proofs.Both.{both_left, both_right}
 use Rattle.grammar.specs.Grammar.{Row, none, ◌▹◌, single, list, Item, keep, valued, Signal, bare, braced, Text, empty, signals, bytes}
 use Rattle.grammar.specs.Meaning.{Known, ◌↣◌, known_signals, items_of, keep_slot, Form, alone, with_number, with_list, Given, given, item_by, items_by, signal_by, signals_by, text_by, has, listed, values_of, form_is_wrong, any_too_large, any_faulty}
-use Rattle.notes.specs.Noting.{Notes, slot_in, item_slot, signal_slot, no_notes, has_in, touch_of, stored_of, value_of, marked_of, signal_of, item_of, list_of}
+use Rattle.notes.specs.Noting.{slot_in, item_slot, signal_slot, no_notes, has_in, touch_of, stored_of, value_of, marked_of, signal_of, item_of, list_of}
+use Rattle.notes.specs.declared.Notes.{Notes}
 use Rattle.scanner.specs.Codes.{code_of, number_of}
 use Rattle.sg.specs.Readings.{item_notes, items_notes, signal_notes, signals_notes, text_notes}
 use Rattle.sg.proofs.Codes.{items_all}

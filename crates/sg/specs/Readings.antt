@@ -1,12 +1,14 @@
 -- What the reader notes of a text, and what it answers for any bytes.
-use Rattle.std.specs.Prelude.{ℕ, List}
+use Rattle.std.specs.Prelude.{ℕ, List, Result, Err}
+use Rattle.descriptor.specs.declared.Refusal.{Refusal}
 use Rattle.descriptor.specs.declared.Refusal.TheVariants.{Grammar}
 use Rattle.grammar.specs.Grammar.{Row, none, ◌▹◌, single, list, Item, keep, valued}
 use Rattle.grammar.specs.Grammar.{Signal, bare, braced, Text, empty, signals}
 use Rattle.grammar.specs.Reader.{Found, found, missing, text_of}
-use Rattle.notes.specs.Noting.{Notes, no_notes, value_of, signal_of, item_of, keep_of, single_of, list_of}
+use Rattle.notes.specs.Noting.{no_notes, value_of, signal_of, item_of, keep_of, single_of, list_of}
+use Rattle.notes.specs.declared.Notes.{Notes}
 use Rattle.scanner.specs.Codes.{code_of, number_of}
-use Rattle.outcomes.specs.Outcomes.{refused_as, outcome_of}
+use Rattle.outcomes.specs.Outcomes.{outcome_of}
 use Rattle.outcomes.specs.declared.Reading.{Reading}
 
 -- the notes of numbers, of an item, of items, of a signal, of signals, after other notes
@@ -35,10 +37,10 @@ unfoldable pub text_notes : Text → Notes
 text_notes empty = no_notes
 text_notes (signals ss s) = signal_notes (signals_notes ss) s
 
-abbrev pub read_in : Found → Reading
+abbrev pub read_in : Found → Result Reading Refusal
 read_in (found t) = outcome_of (text_notes t)
-read_in missing = refused_as Grammar
+read_in missing = Err Grammar
 
 -- what the reader answers for any bytes
-unfoldable pub read_of : List ℕ → Reading
+unfoldable pub read_of : List ℕ → Result Reading Refusal
 read_of l = read_in (text_of l)

@@ -5,34 +5,23 @@ ghost use Rattle.std.specs.Prelude.{◌≡◌};
 ghost use Rattle.sg.specs.Readings.{read_of};
 
 use descriptor::Refusal;
-use notes::Marks;
+use notes::Notes;
 use outcomes::Reading;
 use scanner::Scanner;
 
 // What a text reads as. It is refused where the grammar does not have it, and then where its names or values are wrong.
-pub fn read(text: &[u8]) -> Reading
+pub fn read(text: &[u8]) -> Result<Reading, Refusal>
     ensures { result ≡ read_of text.now }
 {
-    let mut counts = [0usize; 18];
-    let mut values = [0u32; 162];
     let mut scanner = Scanner::fresh();
-    let mut marks = Marks::none();
-    let mut i = 0;
-    while i < text.len() {
-        let turn = scanner.step(text[i]);
+    let mut notes = Notes::none();
+    for &b in text {
+        let turn = scanner.step(b);
         scanner = turn.scanner;
         if scanner.place == scanner::WRONG {
-            return outcomes::refused(Refusal::Grammar);
+            return Err(Refusal::Grammar);
         }
-        marks = notes::note(
-            marks,
-            turn.place,
-            turn.kind,
-            turn.value,
-            &mut counts,
-            &mut values,
-        );
-        i += 1;
+        notes.note(turn.place, turn.kind, turn.value);
     }
-    outcomes::answer(scanner.is_whole(), marks, counts, values)
+    outcomes::answer(scanner.is_whole(), &notes)
 }

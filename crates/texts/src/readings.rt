@@ -121,26 +121,16 @@ fn put_burst(out: &mut Outlet<Stdout>, part: BurstPart) -> io::Result<()> {
 }
 
 // Puts both parts of a reading.
-fn put_parts(out: &mut Outlet<Stdout>, reading: Reading) -> io::Result<()> {
-    let tariff = reading.tariff;
-    let burst = reading.burst;
-    let counts = reading.counts;
-    let values = reading.values;
-    put_tariff(out, tariff, &counts, &values)?;
-    put_burst(out, burst)
+fn put_parts(out: &mut Outlet<Stdout>, reading: &Reading) -> io::Result<()> {
+    put_tariff(out, reading.tariff, &reading.counts, &reading.values)?;
+    put_burst(out, reading.burst)
 }
 
-// Puts a reading: the number of its refusal, or its parts.
-fn put_outcome(out: &mut Outlet<Stdout>, reading: Reading) -> io::Result<()> {
-    let ruling = reading.ruling;
-    match ruling {
-        Ok(()) => put_parts(out, reading),
-        Err(why) => put_number(out, why.number()),
-    }
-}
-
-// Puts what a text reads as, and a line feed.
+// Puts what a text reads as, and a line feed: the number of its refusal, or its parts.
 pub(crate) fn put_reading(out: &mut Outlet<Stdout>, text: &[u8]) -> io::Result<()> {
-    put_outcome(out, sg::read(text))?;
+    match sg::read(text) {
+        Ok(reading) => put_parts(out, &reading)?,
+        Err(why) => put_number(out, why.number())?,
+    }
     put_text(out, b"\n")
 }

@@ -4,4 +4,4 @@ use Rattle.outcomes.proofs.First.{first-kept}
 use Rattle.outcomes.proofs.number.Goals as goal
 
 pub returns-then-has : goal.returns-then-has
-returns-then-has c = first-kept c.args.default c.args.counts.now c.args.values.now c.args.slot (omega arith) (omega arith) (rw (← c.has.ensures) c.if-has.true)
+returns-then-has c = first-kept c.args.default c.args.notes.now.counts c.args.notes.now.values c.args.slot (omega arith) (omega arith) (rw (← c.has.ensures) c.if-has.true)

@@ -1,17 +1,12 @@
--- `read`'s loop: scanner and notes are those after the first i bytes.
-use Rattle.std.proofs.Common.{length, ◌-◌, ◌≡◌, ◌≤◌}
-use Rattle.notes.specs.Noting.{notes_with}
+-- `read`'s loop: scanner and notes are those after the bytes before b.
+use Rattle.std.proofs.Common.{◌≡◌}
 use Rattle.sg.proofs.Scanning.{picture, notes_in}
 use Rattle.sg.proofs.Loop.{after}
 use Rattle.sg.proofs.read.Given as goal
 
-abbrev pub invariant-loop-i : goal.invariant-loop-i
-invariant-loop-i l =
+abbrev pub invariant-loop-b : goal.invariant-loop-b
+invariant-loop-b l =
     record {
-      inside : l.i ≤ length l.text;
-      scanner-is : l.scanner ≡ picture (after l.text l.i);
-      notes-are : notes_with l.marks l.counts l.values ≡ notes_in (after l.text l.i);
+      scanner-is : l.scanner ≡ picture (after l.text l.b-index);
+      notes-are : l.notes ≡ notes_in (after l.text l.b-index);
     }
-
-abbrev pub decreases-loop-i : goal.decreases-loop-i
-decreases-loop-i l = length l.text - l.i

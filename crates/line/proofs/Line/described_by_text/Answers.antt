@@ -3,7 +3,7 @@ use Rattle.line.proofs.Described.{text-is}
 use Rattle.line.proofs.Line.described_by_text.Goals as goal
 
 pub returns-in-Err : goal.returns-in-Err
-returns-in-Err c = rw (← text-is, ← c.read-reading.ensures, c.in-Err.is, c.refusing.ensures)
+returns-in-Err c = rw (← text-is, ← c.read.ensures, c.in-Err.is, c.refusing.ensures)
 
 pub returns-in-Ok : goal.returns-in-Ok
-returns-in-Ok c = rw (← text-is, ← c.read-reading.ensures, c.in-Ok.is, c.described.ensures, c.phases_of-phases.ensures)
+returns-in-Ok c = rw (← text-is, ← c.read.ensures, c.in-Ok.is, c.described.ensures, c.phases.ensures)
