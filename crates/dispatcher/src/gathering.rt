@@ -35,8 +35,8 @@ impl Waiting {
 
 impl Dispatcher {
     // What waits of the line at place i.
-    pub(crate) fn waits_at(self, i: usize) -> Waiting
-        ensures { result ≡ waits_in self.waiting i }
+    pub(crate) fn waits_at(&self, i: usize) -> Waiting
+        ensures { result ≡ waits_in self.now.waiting i }
     {
         self.waiting.get(i).copied().unwrap_or_default()
     }

@@ -7,8 +7,8 @@ use super::{Dispatcher, Notice, Waiting};
 
 impl Dispatcher {
     // Whether a row of n is refused: it is empty, longer than 64, or of another length than at first.
-    pub(crate) fn refuses(self, n: usize) -> bool
-        ensures { result ≡ wrong_row self.length n }
+    pub(crate) fn refuses(&self, n: usize) -> bool
+        ensures { result ≡ wrong_row self.now.length n }
     {
         n == 0 || n > 64 || (self.length > 0 && n != self.length)
     }

@@ -13,8 +13,8 @@ pub(crate) fn place_after(n: usize, i: usize) -> usize
 
 impl Dispatcher {
     // The first place from `from` on and before `to` with something to tell.
-    fn first_from(self, from: usize, to: usize) -> Option<usize>
-        ensures { result ≡ first_from (λ i. tells (waits_in self.waiting i)) (to - from) from }
+    fn first_from(&self, from: usize, to: usize) -> Option<usize>
+        ensures { result ≡ first_from (λ i. tells (waits_in self.now.waiting i)) (to - from) from }
     {
         for i in from..to.min(64) {
             if self.waiting[i].tells() {
@@ -25,8 +25,8 @@ impl Dispatcher {
     }
 
     // Whose turn it is in a row of n: from the place after the last served to the end, and then from place 0.
-    pub(crate) fn turn(self, n: usize) -> Option<usize>
-        ensures { result ≡ turn_of (waits_in self.waiting) n self.next }
+    pub(crate) fn turn(&self, n: usize) -> Option<usize>
+        ensures { result ≡ turn_of (waits_in self.now.waiting) n self.now.next }
     {
         self.first_from(self.next, n)
             .or_else(|| self.first_from(0, n.min(self.next)))

@@ -28,5 +28,5 @@ loop-i-preserved c =
 
 pub returns : goal.returns
 returns c =
-    let d = c.args.self in
+    let d = c.args.self.now in
     sym (first-none (telling d) c.loop-i.i c.args.to 64 (silent-past d (search rules)) (rw (sym c.min-i-end.ensures) c.loop-i-test.false)) ∙ c.loop-i.invariant
