@@ -1,5 +1,7 @@
 -- The dispatcher: what waits to be told of each line, whose turn it is, and what one tick of a card sends.
-use Rattle.std.specs.Prelude.{Bool, false, cond, not, ◌&&◌, ◌||◌, List, [], ◌∷◌, map, ℕ, zero, suc, ◌+◌, ◌-◌, min, ltb, eqb, length, get_or, set, replicate}
+use Rattle.std.specs.Prelude.{Bool, false, not, if◌then◌else◌, ◌&&◌, ◌||◌, List, [], ◌∷◌, map, ℕ, zero, suc, ◌+◌, ◌-◌}
+use Rattle.std.specs.Prelude.{min, nat_lt, ◌==◌, length, get_or, set, replicate, Option, Some, None, option_map, Ok, Err}
+use Rattle.std.specs.Option.{option_or}
 use Rattle.answers.specs.declared.Tick.{Tick}
 use Rattle.descriptor.specs.declared.Refusal.TheVariants.{Row}
 use Rattle.state.specs.Rules.{one_more}
@@ -8,11 +10,7 @@ use Rattle.line.specs.declared.Line.{Line}
 use Rattle.dispatcher.specs.declared.Waiting.{Waiting}
 use Rattle.dispatcher.specs.declared.Dispatcher.{Dispatcher}
 use Rattle.dispatcher.specs.declared.Dispatched.{Dispatched}
-use Rattle.dispatcher.specs.declared.Turn.{Turn}
-use Rattle.dispatcher.specs.declared.Turn.TheVariants.{None, Of}
-use Rattle.dispatcher.specs.declared.Sent.{Sent}
-use Rattle.dispatcher.specs.declared.Sent.TheVariants.{Quiet, Notice}
-use Rattle.dispatcher.specs.declared.Reply.TheVariants.{Sends, Refuses}
+use Rattle.dispatcher.specs.declared.Notice.{Notice}
 
 -- ---- what waits to be told
 
@@ -21,7 +19,7 @@ nothing = record { tariff = false; burst = false; reports = 0 }
 
 -- there is something to tell
 abbrev pub tells : Waiting → Bool
-tells w = w.tariff || (w.burst || ltb 0 w.reports)
+tells w = w.tariff || (w.burst || nat_lt 0 w.reports)
 
 -- a mark is set if one or more completions fell; the number of reports is held at 4,294,967,295
 abbrev pub gathered : Waiting → Tick → Waiting
@@ -29,7 +27,7 @@ gathered w t =
     record {
       tariff = w.tariff || t.tariff;
       burst = w.burst || t.burst;
-      reports = cond t.report (one_more w.reports) w.reports;
+      reports = if t.report then one_more w.reports else w.reports;
     }
 
 -- what waits at each place, and what the ticks of the lines there told
@@ -44,23 +42,19 @@ waits_in ws i = get_or ws i nothing
 -- ---- going round
 
 -- the first of k places from i on of which f holds
-unfoldable pub first_from : (ℕ → Bool) → ℕ → ℕ → Turn
+unfoldable pub first_from : (ℕ → Bool) → ℕ → ℕ → Option ℕ
 first_from f zero i = None
-first_from f (suc k) i = cond (f i) (Of i) (first_from f k (suc i))
-
-abbrev pub or_else : Turn → Turn → Turn
-or_else None t = t
-or_else (Of i) t = Of i
+first_from f (suc k) i = if f i then Some i else first_from f k (suc i)
 
 -- in a row of n, from place i to the end and then from place 0
-abbrev pub going_round : (ℕ → Bool) → ℕ → ℕ → Turn
-going_round f n i = or_else (first_from f (n - i) i) (first_from f (min i n) 0)
+abbrev pub going_round : (ℕ → Bool) → ℕ → ℕ → Option ℕ
+going_round f n i = option_or (first_from f (n - i) i) (first_from f (min i n) 0)
 
 abbrev pub place_after : ℕ → ℕ → ℕ
-place_after n i = cond (ltb (i + 1) n) (i + 1) 0
+place_after n i = if nat_lt (i + 1) n then i + 1 else 0
 
 -- whose turn it is in a row of n where w waits at each place, and next is the place after the last served
-abbrev pub turn_of : (ℕ → Waiting) → ℕ → ℕ → Turn
+abbrev pub turn_of : (ℕ → Waiting) → ℕ → ℕ → Option ℕ
 turn_of w n next = going_round (λ i. tells (w i)) n next
 
 -- ---- one tick
@@ -71,23 +65,26 @@ fresh_dispatcher = record { length = 0; next = 0; waiting = replicate 64 nothing
 
 -- a row of n is empty, longer than 64, or of another length than at first
 abbrev pub bad_row : ℕ → Bool
-bad_row n = eqb n 0 || ltb 64 n
+bad_row n = n == 0 || nat_lt 64 n
 
 abbrev pub wrong_row : ℕ → ℕ → Bool
-wrong_row first n = bad_row n || (ltb 0 first && not (eqb n first))
+wrong_row first n = bad_row n || (nat_lt 0 first && not (n == first))
+
+-- of the line at place i
+abbrev pub notice : ℕ → Waiting → Notice
+notice i told = record { place = i; told = told }
 
 -- the notice of the line whose turn it is, where w waits at each place
-abbrev pub sent_of : (ℕ → Waiting) → Turn → Sent
-sent_of w None = Quiet
-sent_of w (Of i) = Notice i (w i)
+abbrev pub sent_of : (ℕ → Waiting) → Option ℕ → Option Notice
+sent_of w turn = option_map (λ i. notice i (w i)) turn
 
 -- the dispatcher after it: serving clears what waits
-abbrev pub served_by : ℕ → ℕ → List Waiting → Turn → Dispatcher
+abbrev pub served_by : ℕ → ℕ → List Waiting → Option ℕ → Dispatcher
 served_by n next ws None = record { length = n; next = next; waiting = ws }
-served_by n next ws (Of i) = record { length = n; next = place_after n i; waiting = set ws i nothing }
+served_by n next ws (Some i) = record { length = n; next = place_after n i; waiting = set ws i nothing }
 
 -- what is sent in a row of n whose lines' ticks told ts, and the dispatcher after it
-abbrev pub sent_by : Dispatcher → ℕ → List Tick → Sent
+abbrev pub sent_by : Dispatcher → ℕ → List Tick → Option Notice
 sent_by d n ts = let w = waits_in (gather_all d.waiting ts) in sent_of w (turn_of w n d.next)
 
 abbrev pub after_tick : Dispatcher → ℕ → List Tick → Dispatcher
@@ -102,12 +99,12 @@ told_row ls = map (λ l. (tick_of l).tick) ls
 
 -- a wrong row is refused first of all, and then nothing moves
 abbrev pub row_of : Dispatcher → List Line → List Line
-row_of d ls = cond (wrong_row d.length (length ls)) ls (ticked_row ls)
+row_of d ls = if wrong_row d.length (length ls) then ls else ticked_row ls
 
 unfoldable pub dispatch_of : Dispatcher → List Line → Dispatched
 dispatch_of d ls =
-    cond (wrong_row d.length (length ls)) (record { dispatcher = d; reply = Refuses Row })
-    (record {
+    if wrong_row d.length (length ls) then record { dispatcher = d; reply = Err Row } else
+    record {
       dispatcher = after_tick d (length ls) (told_row ls);
-      reply = Sends (sent_by d (length ls) (told_row ls));
-    })
+      reply = Ok (sent_by d (length ls) (told_row ls));
+    }

@@ -9,7 +9,7 @@ mod ticks;
 mod turns;
 
 // What waits to be told of a line: the two completion marks, and the number of reports.
-#[derive(Clone, Copy)]
+#[derive(Clone, Copy, Default)]
 pub struct Waiting {
     pub tariff: bool,
     pub burst: bool,
@@ -25,26 +25,15 @@ pub struct Dispatcher {
     pub waiting: [Waiting; 64],
 }
 
-// Whose turn it is: nobody's, or that of the line at a place.
+// The notice of the line at a place.
 #[derive(Clone, Copy)]
-pub enum Turn {
-    None,
-    Of(usize),
+pub struct Notice {
+    pub place: usize,
+    pub told: Waiting,
 }
 
-// What goes over the link in a tick: nothing, or the notice of the line at a place.
-#[derive(Clone, Copy)]
-pub enum Sent {
-    Quiet,
-    Notice { place: usize, told: Waiting },
-}
-
-// What a tick is answered.
-#[derive(Clone, Copy)]
-pub enum Reply {
-    Sends(Sent),
-    Refuses(Refusal),
-}
+// What a tick is answered: the notice that goes over the link, if there is one, or why the row is refused.
+pub type Reply = Result<Option<Notice>, Refusal>;
 
 // The dispatcher after a tick, and what the tick is answered.
 #[derive(Clone, Copy)]

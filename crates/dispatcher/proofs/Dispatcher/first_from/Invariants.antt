@@ -7,6 +7,3 @@ abbrev pub invariant-loop-i : goal.invariant-loop-i
 invariant-loop-i l =
     let telling : ℕ → Bool = λ i. tells (waits_in l.self.waiting i) in
     first_from telling (l.to - l.i) l.i ≡ first_from telling (l.to - l.from) l.from
-
-abbrev pub decreases-loop-i : goal.decreases-loop-i
-decreases-loop-i l = l.end - l.i
