@@ -9,14 +9,13 @@ use line::Line;
 
 // One tick of a lent line, which is moved on where it is held: only its state is stored, and a quiet line is not copied.
 pub fn tick_in_place(line: &mut Line) -> Tick
-    ensures { (result ≡ (tick_of line.old).tick) × (line.new ≡ (tick_of line.old).line) }
+    ensures told { result ≡ (tick_of line.old).tick }
+    ensures moved { line.new ≡ (tick_of line.old).line }
 {
-    let q = (*line).state.quick((*line).pulse, (*line).spacing);
-    if q.busy {
-        let m = (*line).moved();
-        (*line).state = m.state;
-        return m.tick;
-    }
-    (*line).state = q.moved.state;
-    q.moved.tick
+    let moved = match line.state.quick(line.pulse, line.spacing) {
+        Some(quiet) => quiet,
+        None => line.moved(),
+    };
+    line.state = moved.state;
+    moved.tick
 }

@@ -6,4 +6,4 @@ pub returns-in-Err : goal.returns-in-Err
 returns-in-Err c = rw (← text-is, ← c.read.ensures, c.in-Err.is, c.refusing.ensures)
 
 pub returns-in-Ok : goal.returns-in-Ok
-returns-in-Ok c = rw (← text-is, ← c.read.ensures, c.in-Ok.is, c.described.ensures, c.phases.ensures)
+returns-in-Ok c = rw (← text-is, ← c.read.ensures, c.in-Ok.is, c.described.ensures, c.phases-table.ensures)
