@@ -1,16 +1,13 @@
 -- Texts that are put one after the other are one text that is put.
-use mathlib.Core.Bool.{false}
 use mathlib.Core.Path.{◌≡◌, refl, sym, ap, ◌∙◌}
-use mathlib.Core.List.{List, [], ◌∷◌, ◌++◌, append_assoc}
-use Prim.Native.Nat.{ℕ, suc, ◌+◌, ◌≤◌, ◌<◌}
-use native.Mathlib.Numerals.{add-one}
+use mathlib.Core.List.{List, [], ◌++◌, append_assoc}
+use Prim.Native.Nat.{ℕ, ◌+◌, ◌-◌, ◌≤◌}
 use native.Mathlib.Omega.{arith}
-use lib.Dec.{ltb}
-use lib.ListN.{length, take, drop, set, length-append, length-set}
-use lib.Seq.{take_at, drop-append-add, drop-drop, length-take-le, paste-zero, set_split, append_snoc}
+use lib.ListN.{length, take, drop, length-append, length-drop}
+use lib.Seq.{take_at, drop-append-add, drop-drop, length-take-le, paste-zero}
+use borrow.Rule.Slice.PartMut.{put_mid}
 use Rattle.printing.specs.Text.{digits_of}
-use Rattle.printing.specs.Buffer.{pasted, Put, longest, written}
-use Rattle.printing.specs.declared.Written.TheVariants.{Next}
+use Rattle.printing.specs.Buffer.{pasted, Put}
 
 module _ (b : List ℕ) (at : ℕ) (within : at ≤ length b) where
   length-head : (t : List ℕ) → length (take at b ++ t) ≡ at + length t
@@ -42,24 +39,22 @@ module _ (b : List ℕ) (at : ℕ) (within : at ≤ length b) where
       → Put b at (t ++ digits_of x ++ tail) b'' m
   put_number x tail {t} p q = rw (append_assoc t (digits_of x) tail) (put_then p q)
 
-  -- a byte that is stored is a text of one byte that is put
-  put_byte : (x : ℕ) → at < length b → Put b at (x ∷ []) (set b at x) (at + 1)
-  unfolding pasted
-  put_byte x h = record {
-    place = refl;
-    size = length-set b at x;
-    holds = set_split b at x h ∙ sym (append_snoc (take at b) x (drop (suc at) b)) ∙ rw add-one;
-  }
-
   -- no text changes nothing
   pub put_nothing : Put b at [] b at
   unfolding pasted
   put_nothing = record { place = omega arith; size = refl; holds = paste-zero b at [] }
 
--- a byte that is stored, and then a text from the next place on
-pub put_next : (b : List ℕ) (at x : ℕ) {t b' : List ℕ} {n : ℕ} → at < length b → Put (set b at x) (at + 1) t b' n → Put b at (x ∷ t) b' n
-put_next b at x h p = put_then b at (omega arith) (put_byte b at (omega arith) x h) p
-
--- a text that was put where the buffer is not full is what is written
-pub put_written : {b t b' : List ℕ} {at n : ℕ} → ltb (length b) (at + longest) ≡ false → Put b at t b' n → (Next n, b') ≡ written b at t
-put_written room p = rw (room, p.place, p.holds)
+-- a text that is copied into a part of the buffer of its length
+pub put_part : (b : List ℕ) (at k : ℕ) (text part : List ℕ) → at + length text ≤ length b → k ≡ length text → part ≡ text
+    → Put b at text (put_mid at k b part) (at + length text)
+unfolding pasted
+put_part b at k text part room size same =
+    let n = length text in
+    let head : length (take at b) ≡ at = length-take-le at b (omega arith) in
+    let tail : length (drop n (drop at b)) ≡ length b - at - n = length-drop n (drop at b) ∙ ap (λ (k : ℕ). k - n) (length-drop at b) in
+    rw (size, same)
+    (record {
+      place = refl;
+      size = omega (arith, length-append (take at b) (text ++ drop n (drop at b)), length-append text (drop n (drop at b)));
+      holds = rw (drop-drop n at b) (sym (append_assoc (take at b) text (drop (at + n) b)));
+    })

@@ -1,7 +1,5 @@
 -- A text put into a buffer.
-use Rattle.std.specs.Prelude.{◌≡◌, cond, List, ◌++◌, ℕ, ◌+◌, ltb, length, take, drop}
-use Rattle.printing.specs.declared.Written.{Written}
-use Rattle.printing.specs.declared.Written.TheVariants.{Next, Full}
+use Rattle.std.specs.Prelude.{◌≡◌, List, ◌++◌, ℕ, ◌+◌, nat_le, length, take, drop, Option, Some, None, if◌then◌else◌}
 
 -- a buffer with a text from the place `at` on; the rest of it is unchanged
 unfoldable pub pasted : List ℕ → ℕ → List ℕ → List ℕ
@@ -17,6 +15,7 @@ pub record Put (buf : List ℕ) (at : ℕ) (text after : List ℕ) (next : ℕ) 
 abbrev pub longest : ℕ
 longest = 69
 
--- a buffer without room for the longest text is full and stays as it is; else the text is put
-abbrev pub written : List ℕ → ℕ → List ℕ → Written × List ℕ
-written buf at text = cond (ltb (length buf) (at + longest)) (Full, buf) (Next (at + length text), pasted buf at text)
+-- where the longest text has room the text is put, and the place after it is told; else the buffer stays as it is
+abbrev pub written : List ℕ → ℕ → List ℕ → Option ℕ × List ℕ
+written buf at text =
+    if nat_le (at + longest) (length buf) then (Some (at + length text), pasted buf at text) else (None, buf)

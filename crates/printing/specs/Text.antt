@@ -1,12 +1,11 @@
 -- The text that `meter` and `card` print.
-use Rattle.std.specs.Prelude.{◌≡◌, Bool, true, false, cond, List, [], ◌∷◌, ◌++◌, ℕ, zero, suc, ◌+◌, ◌/◌, ◌%◌, ◌≤◌}
-use Rattle.std.specs.Prelude.{ltb, length, drop}
+use Rattle.std.specs.Prelude.{Bool, true, false, cond, List, [], ◌∷◌, ◌++◌, ℕ, zero, suc, ◌+◌, ◌/◌, ◌%◌}
+use Rattle.std.specs.Prelude.{ltb}
 use Prim.Native.String.{String, ◌++◌ as ◌&◌}
 use Rattle.answers.specs.declared.Front.{Front}
 use Rattle.answers.specs.declared.Front.TheVariants.{None, Tariff, Burst}
 use Rattle.answers.specs.declared.Tick.{Tick}
 use Rattle.printing.specs.Bytes.{bytes}
-use Rattle.printing.specs.declared.decimal.Digits.{Digits}
 use Rattle.printing.specs.declared.Answer.{Answer}
 use Rattle.printing.specs.declared.Answer.TheVariants.{Ok, No, Bad}
 
@@ -22,12 +21,6 @@ digits_in (suc k) n = cond (ltb n 10) (digit n ∷ []) (digits_in k (n / 10) ++ 
 -- the decimal digits of a number of 32 bits
 unfoldable pub digits_of : ℕ → List ℕ
 digits_of n = digits_in 10 n
-
--- the digits d are those of n
-pub record Spells (d : Digits) (n : ℕ) : Type 0 where
-  pub size : length d.bytes ≡ 10
-  pub within : d.start ≤ 10
-  pub digits : drop d.start d.bytes ≡ digits_of n
 
 -- an answer's line: `ok` and the cancelled count, `no` and the number, or `bad`
 abbrev pub answer_text : Answer → List ℕ

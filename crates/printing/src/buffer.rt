@@ -1,24 +1,28 @@
 // Text put into a lent buffer.
-ghost use Rattle.std.specs.Prelude.{◌+◌, ◌≤◌, ◌++◌, length};
-ghost use Rattle.printing.specs.Bytes.{unpacked};
+ghost use Rattle.std.specs.Prelude.{◌≡◌, ◌+◌, ◌≤◌, ◌++◌, length, nat_le};
 ghost use Rattle.printing.specs.Text.{digits_of};
-ghost use Rattle.printing.specs.Buffer.{Put};
+ghost use Rattle.printing.specs.Buffer.{Put, longest};
 
-use super::decimal::decimal;
+use itoa::Buffer;
 
-// Puts a text that is packed in a number, its lowest byte first, and answers the place after it.
-pub(crate) fn put_packed(buf: &mut [u8], at: usize, text: u64) -> usize
-    requires { at + length (unpacked text) ≤ length buf.old }
-    ensures { Put buf.old at (unpacked text) buf.new result }
+// The length of the longest text.
+const LONGEST: usize = 69;
+
+// Whether the longest text has room from `at` on.
+pub(crate) fn has_room(buf: &[u8], at: usize) -> bool
+    ensures { result ≡ nat_le (at + longest) (length buf.now) }
 {
-    let mut i = at;
-    let mut rest = text;
-    while rest > 0 {
-        buf[i] = (rest % 256) as u8;
-        rest /= 256;
-        i += 1;
-    }
-    i
+    buf.len().saturating_sub(at) >= LONGEST
+}
+
+// Puts a text, and answers the place after it.
+pub(crate) fn put_text(buf: &mut [u8], at: usize, text: &[u8]) -> usize
+    requires { at + length text.now ≤ length buf.old }
+    ensures { Put buf.old at text.now buf.new result }
+{
+    let end = at + text.len();
+    buf[at..end].copy_from_slice(text);
+    end
 }
 
 // Puts a number in decimal digits.
@@ -27,25 +31,16 @@ fn put_number(buf: &mut [u8], at: usize, n: u32) -> usize
     ensures put { Put buf.old at (digits_of n) buf.new result }
     ensures upper_bound { result ≤ at + 10 }
 {
-    let digits = decimal(n);
-    let bytes = digits.bytes;
-    let mut i = digits.start;
-    let mut next = at;
-    while i < 10 {
-        buf[next] = bytes[i];
-        next += 1;
-        i += 1;
-    }
-    next
+    put_text(buf, at, Buffer::new().format(n).as_bytes())
 }
 
-// Puts a number between two packed texts.
-pub(crate) fn put_around(buf: &mut [u8], at: usize, head: u64, n: u32, tail: u64) -> usize
-    requires { at + length (unpacked head) + 10 + length (unpacked tail) ≤ length buf.old }
-    ensures put { Put buf.old at (unpacked head ++ digits_of n ++ unpacked tail) buf.new result }
-    ensures upper_bound { result ≤ at + length (unpacked head) + 10 + length (unpacked tail) }
+// Puts a number between two texts.
+pub(crate) fn put_around(buf: &mut [u8], at: usize, head: &[u8], n: u32, tail: &[u8]) -> usize
+    requires { at + length head.now + 10 + length tail.now ≤ length buf.old }
+    ensures put { Put buf.old at (head.now ++ digits_of n ++ tail.now) buf.new result }
+    ensures upper_bound { result ≤ at + length head.now + 10 + length tail.now }
 {
-    let at = put_packed(buf, at, head);
+    let at = put_text(buf, at, head);
     let at = put_number(buf, at, n);
-    put_packed(buf, at, tail)
+    put_text(buf, at, tail)
 }

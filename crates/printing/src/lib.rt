@@ -3,7 +3,6 @@
 
 mod asks;
 mod buffer;
-mod decimal;
 mod notices;
 mod text;
 
@@ -12,16 +11,10 @@ pub use notices::{put_counters, put_notice};
 pub use text::{put_answer, put_tick};
 
 // What a command is answered: the burst pulses cancelled, the number of a refusal, or neither.
-#[derive(Clone, Copy)]
+// Stays: three answers of the language; `Option<Result<u32, u32>>` is no plainer and no longer names `bad`.
+#[derive(Clone, Copy, PartialEq, Eq, Debug)]
 pub enum Answer {
     Ok(u32),
     No(u32),
     Bad,
-}
-
-// The place after a text that was put, or no room for it.
-#[derive(Clone, Copy)]
-pub enum Written {
-    Next(usize),
-    Full,
 }

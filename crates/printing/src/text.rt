@@ -1,50 +1,12 @@
 // The text of answers and events.
-ghost use Rattle.std.specs.Prelude.{◌≡◌, ◌++◌, ◌+◌, ◌≤◌, ltb, length};
-ghost use Rattle.printing.specs.Bytes.{bytes, unpacked};
+ghost use Rattle.std.specs.Prelude.{◌≡◌, ◌++◌, ◌+◌, ◌≤◌, length};
+ghost use Rattle.printing.specs.Bytes.{bytes};
 ghost use Rattle.printing.specs.Text.{digits_of, answer_text, when, front_text, tick_text};
 ghost use Rattle.printing.specs.Buffer.{Put, longest, written};
 
-use super::buffer::{put_around, put_packed};
-use super::{Answer, Written};
+use super::Answer;
+use super::buffer::{has_room, put_around, put_text};
 use answers::{Front, Tick};
-
-// The fixed texts, packed: the lowest byte of a number is its text's first.
-pub(crate) const OK: u64 = 0x206b6f; // "ok "
-
-pub(crate) const NO: u64 = 0x206f6e; // "no "
-
-pub(crate) const BAD: u64 = 0x0a646162; // "bad\n"
-
-const COMPLETE: u64 = 0x2063; // "c "
-
-const FRONT: u64 = 0x2066; // "f "
-
-const REPORT: u64 = 0x2072; // "r "
-
-const OF_TARIFF: u64 = 0x206220; // " b "
-
-const OF_BURST: u64 = 0x206d20; // " m "
-
-const ENDS_TARIFF: u64 = 0x0a6220; // " b\n"
-
-const ENDS_BURST: u64 = 0x0a6d20; // " m\n"
-
-pub(crate) const NEWLINE: u64 = 0x0a; // "\n"
-
-pub(crate) const NOTHING: u64 = 0;
-
-// Whether the longest text has no room from `at` on.
-pub(crate) fn is_full(length: usize, at: usize) -> bool
-    ensures { result ≡ ltb length (at + longest) }
-{
-    if length < 69 {
-        return true;
-    }
-    if length - 69 < at {
-        return true;
-    }
-    false
-}
 
 // Puts an answer's line.
 fn put_line(buf: &mut [u8], at: usize, answer: Answer) -> usize
@@ -52,27 +14,28 @@ fn put_line(buf: &mut [u8], at: usize, answer: Answer) -> usize
     ensures { Put buf.old at (answer_text answer) buf.new result }
 {
     match answer {
-        Answer::Ok(cancelled) => put_around(buf, at, OK, cancelled, NEWLINE),
-        Answer::No(number) => put_around(buf, at, NO, number, NEWLINE),
-        Answer::Bad => put_packed(buf, at, BAD),
+        Answer::Ok(cancelled) => put_around(buf, at, b"ok ", cancelled, b"\n"),
+        Answer::No(number) => put_around(buf, at, b"no ", number, b"\n"),
+        Answer::Bad => put_text(buf, at, b"bad\n"),
     }
 }
 
 // Puts an answer's line from `at` on.
-pub fn put_answer(buf: &mut [u8], at: usize, answer: Answer) -> Written
+pub fn put_answer(buf: &mut [u8], at: usize, answer: Answer) -> Option<usize>
     ensures { (result, buf.new) ≡ written buf.old at (answer_text answer) }
 {
-    if is_full(buf.len(), at) {
-        return Written::Full;
+    if has_room(buf, at) {
+        Some(put_line(buf, at, answer))
+    } else {
+        None
     }
-    Written::Next(put_line(buf, at, answer))
 }
 
 // Puts a number between two texts where that line is told.
-fn put_told(buf: &mut [u8], at: usize, told: bool, head: u64, n: u32, tail: u64) -> usize
-    requires { at + length (unpacked head) + 10 + length (unpacked tail) ≤ length buf.old }
-    ensures put { Put buf.old at (when told (unpacked head ++ digits_of n ++ unpacked tail)) buf.new result }
-    ensures upper_bound { result ≤ at + length (unpacked head) + 10 + length (unpacked tail) }
+fn put_told(buf: &mut [u8], at: usize, told: bool, head: &[u8], n: u32, tail: &[u8]) -> usize
+    requires { at + length head.now + 10 + length tail.now ≤ length buf.old }
+    ensures put { Put buf.old at (when told (head.now ++ digits_of n ++ tail.now)) buf.new result }
+    ensures upper_bound { result ≤ at + length head.now + 10 + length tail.now }
 {
     if told {
         put_around(buf, at, head, n, tail)
@@ -82,13 +45,13 @@ fn put_told(buf: &mut [u8], at: usize, told: bool, head: u64, n: u32, tail: u64)
 }
 
 // Puts the line of a front with the letter that stands between its numbers.
-fn put_letter(buf: &mut [u8], at: usize, clock: u32, letter: u64, cpc: u32) -> usize
-    requires { at + length (unpacked letter) + 23 ≤ length buf.old }
-    ensures put { Put buf.old at (bytes "f " ++ digits_of clock ++ unpacked letter ++ digits_of cpc ++ bytes "\n") buf.new result }
-    ensures upper_bound { result ≤ at + length (unpacked letter) + 23 }
+fn put_letter(buf: &mut [u8], at: usize, clock: u32, letter: &[u8], cpc: u32) -> usize
+    requires { at + length letter.now + 23 ≤ length buf.old }
+    ensures put { Put buf.old at (bytes "f " ++ digits_of clock ++ letter.now ++ digits_of cpc ++ bytes "\n") buf.new result }
+    ensures upper_bound { result ≤ at + length letter.now + 23 }
 {
-    let at = put_around(buf, at, FRONT, clock, letter);
-    put_around(buf, at, NOTHING, cpc, NEWLINE)
+    let at = put_around(buf, at, b"f ", clock, letter);
+    put_around(buf, at, b"", cpc, b"\n")
 }
 
 // Puts the line of a front, if there is one.
@@ -99,8 +62,8 @@ fn put_front(buf: &mut [u8], at: usize, clock: u32, cpc: u32, front: Front) -> u
 {
     match front {
         Front::None => at,
-        Front::Tariff => put_letter(buf, at, clock, OF_TARIFF, cpc),
-        Front::Burst => put_letter(buf, at, clock, OF_BURST, cpc),
+        Front::Tariff => put_letter(buf, at, clock, b" b ", cpc),
+        Front::Burst => put_letter(buf, at, clock, b" m ", cpc),
     }
 }
 
@@ -109,19 +72,19 @@ fn put_lines(buf: &mut [u8], at: usize, clock: u32, cpc: u32, tick: Tick) -> usi
     requires { at + longest ≤ length buf.old }
     ensures { Put buf.old at (tick_text clock cpc tick) buf.new result }
 {
-    let front = tick.front;
-    let at = put_told(buf, at, tick.tariff, COMPLETE, clock, ENDS_TARIFF);
-    let at = put_told(buf, at, tick.burst, COMPLETE, clock, ENDS_BURST);
-    let at = put_front(buf, at, clock, cpc, front);
-    put_told(buf, at, tick.report, REPORT, clock, NEWLINE)
+    let at = put_told(buf, at, tick.tariff, b"c ", clock, b" b\n");
+    let at = put_told(buf, at, tick.burst, b"c ", clock, b" m\n");
+    let at = put_front(buf, at, clock, cpc, tick.front);
+    put_told(buf, at, tick.report, b"r ", clock, b"\n")
 }
 
 // Puts a tick's lines from `at` on, none where it tells nothing.
-pub fn put_tick(buf: &mut [u8], at: usize, clock: u32, cpc: u32, tick: Tick) -> Written
+pub fn put_tick(buf: &mut [u8], at: usize, clock: u32, cpc: u32, tick: Tick) -> Option<usize>
     ensures { (result, buf.new) ≡ written buf.old at (tick_text clock cpc tick) }
 {
-    if is_full(buf.len(), at) {
-        return Written::Full;
+    if has_room(buf, at) {
+        Some(put_lines(buf, at, clock, cpc, tick))
+    } else {
+        None
     }
-    Written::Next(put_lines(buf, at, clock, cpc, tick))
 }

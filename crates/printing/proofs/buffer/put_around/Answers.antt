@@ -6,4 +6,4 @@ pub returns-clause-put : goal.returns-clause-put
 returns-clause-put c =
     let a = c.args in
     let h : a.at ≤ length a.buf.now = omega arith in
-    put_then a.buf.now a.at h (put_then a.buf.now a.at h c.put_packed-at.ensures c.put_number-at.ensures.put) c.put_packed.ensures
+    put_then a.buf.now a.at h (put_then a.buf.now a.at h c.put_text-at.ensures c.put_number-at.ensures.put) c.put_text.ensures
