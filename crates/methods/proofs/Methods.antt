@@ -6,11 +6,11 @@ use Prim.Native.Nat.{ℕ}
 use types.Logic.{Logic}
 use borrow.Table.Steps.{cases}
 use seplogic.Ra.Ura.{Ura}
-use base.Logic.{SProp, ent}
+use base.Logic.{SProp, ent, sep, fst∗, snd∗}
 use prog.Model.{Model}
 use prog.Wired.{Code}
 use mir.Syntax.{Callee}
-use contract.Monad.{fact, fact_mono}
+use contract.Monad.{fact, fact_i, fact_mono, fact_use}
 use contract.Lifetimes.{Lfts}
 use contract.Running.{Running}
 use denote.Ask.Run.{routine_mono}
@@ -37,6 +37,13 @@ taken D G clock = cases (sound_configuration D G) (λ e. rw e) (λ e. rw e)
 lent-step : (l : Line) {r : Tick} {l' : Line} → r ≡ (tick_of l).tick → l' ≡ (tick_of l).line → step l tick ≡ outcome (ticked r) l'
 unfolding step
 lent-step l e f = rw (e, f)
+
+-- what follows from two clauses
+pub both : {M : Type 1} (𝓤 : Ura M) {A B : Type 0} (C : Type 0) → (A → B → C) → ent 𝓤 (sep 𝓤 (fact 𝓤 A) (fact 𝓤 B)) (fact 𝓤 C)
+both 𝓤 {A} {B} C f =
+    let P : SProp 𝓤 = sep 𝓤 (fact 𝓤 A) (fact 𝓤 B) in
+    fact_use 𝓤 {P = P} {Q = fact 𝓤 C} A (fst∗ 𝓤 (fact 𝓤 A) (fact 𝓤 B)) (λ a.
+    fact_use 𝓤 {P = P} {Q = fact 𝓤 C} B (snd∗ 𝓤 (fact 𝓤 A) (fact 𝓤 B)) (λ b. fact_i 𝓤 C P (f a b)))
 
 module _ {M : Type 1} {𝓤 : Ura M} (𝓛 : Logic 𝓤) (𝓜 : Model 𝓤 𝓛.H) (𝓡 : Running 𝓤 𝓛.H 𝓜) where
   -- by the contract c that it is proved to meet
