@@ -4,9 +4,7 @@ use Rattle.std.specs.Prelude.{◌≡◌, cond, List, [], ◌++◌, map, ℕ, len
 use Rattle.descriptor.specs.Refusals.{refusal_number}
 use Rattle.line.specs.Lines.{Verdict, blank_line}
 use Rattle.line.specs.declared.Line.{Line}
-use Rattle.dispatcher.specs.Dispatch.{wrong_row, row_of, dispatch_of}
-use Rattle.dispatcher.specs.declared.Reply.{Reply}
-use Rattle.dispatcher.specs.declared.Reply.TheVariants.{Sends, Refuses}
+use Rattle.dispatcher.specs.Dispatch.{Reply, wrong_row, row_of, dispatch_of}
 use Rattle.group.specs.Groups.{if_accepted, verdict_of, row_of as rated_by}
 use Rattle.demand.specs.Calls.{Call, tick, Entry}
 use Rattle.demand.specs.Machine.{Past, past, after_call, entries, line_after}
@@ -15,8 +13,8 @@ use Rattle.card_demand.specs.Card.{Card, calls_at, row_after, Stepped, card_step
 
 -- the dispatcher's reply on the card: a refusal by its number
 abbrev pub replied : Reply → CardReply
-replied (Sends s) = sends s
-replied (Refuses r) = refuses (refusal_number r)
+replied (Ok s) = sends s
+replied (Err r) = refuses (refusal_number r)
 
 -- the group's reply on the card
 abbrev pub group_reply : Verdict → CardReply

@@ -49,23 +49,11 @@ module _ {M : Type 1} {𝓤 : Ura M} (𝓛 : Logic 𝓤) (𝓜 : Model 𝓤 𝓛
         (verdict_told r.verdict ≡ cond (sound_configuration D G) (accepted 0) (refused 1)) ×
         ((cs : List Call) → history D G clock cs ≡ entries (after_calls (past [] r.line) cs)))
     pub describes : Does L.describe.ended L_code.describe.Symbol.name L_code.describe.Symbol.code
-        (λ _ (l, (t, (pri, (pcx, (repx, (pcn, (repn, (ci, (pd, (b, _)))))))))) r _.
-        let ls = lists_of pri.now pcx.now repx.now pcn.now repn.now ci.now pd.now in
-        step l (parts t ls b) ≡ answered r)
-    pub describes_text : Does L.describe_text.ended L_code.describe_text.Symbol.name L_code.describe_text.Symbol.code
-        (λ _ (l, (bytes, _)) r _. step l (text bytes.now) ≡ answered r)
+        (λ _ (l, (d, _)) r _. step l (describe None (meant_by d)) ≡ answered r)
     pub asks : Does L.ask.ended L_code.ask.Symbol.name L_code.ask.Symbol.code
-        (λ _ (l, (t, (pri, (pcx, (repx, (pcn, (repn, (ci, (pd, (b, _)))))))))) r _.
-        let ls = lists_of pri.now pcx.now repx.now pcn.now repn.now ci.now pd.now in
-        step l (ask (descriptor t ls b)) ≡ ticketed r)
-    pub asks_text : Does L.ask_text.ended L_code.ask_text.Symbol.name L_code.ask_text.Symbol.code
-        (λ _ (l, (bytes, _)) r _. step l (ask (reading_of bytes.now)) ≡ ticketed r)
+        (λ _ (l, (d, _)) r _. step l (ask (meant_by d)) ≡ ticketed r)
     pub commits : Does L.commit.ended L_code.commit.Symbol.name L_code.commit.Symbol.code
-        (λ _ (l, (n, (t, (pri, (pcx, (repx, (pcn, (repn, (ci, (pd, (b, _))))))))))) r _.
-        let ls = lists_of pri.now pcx.now repx.now pcn.now repn.now ci.now pd.now in
-        step l (commit n (descriptor t ls b)) ≡ answered r)
-    pub commits_text : Does L.commit_text.ended L_code.commit_text.Symbol.name L_code.commit_text.Symbol.code
-        (λ _ (l, (n, (bytes, _))) r _. step l (commit n (reading_of bytes.now)) ≡ answered r)
+        (λ _ (l, (n, (d, _))) r _. step l (commit n (meant_by d)) ≡ answered r)
     pub hooks : Does L.hook.ended L_code.hook.Symbol.name L_code.hook.Symbol.code
         (λ _ (l, (k, _)) r _. step l (hook k) ≡ answered r)
     pub periods : Does L.set_period.ended L_code.set_period.Symbol.name L_code.set_period.Symbol.code
