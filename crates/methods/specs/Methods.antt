@@ -1,5 +1,5 @@
 -- What each public method of a line does, in every model of the machine: the step that a list of calls takes.
-use Rattle.std.specs.Prelude.{◌≡◌, cond, List, []}
+use Rattle.std.specs.Prelude.{◌≡◌, cond, List, [], None}
 use seplogic.Ra.Ura.{Ura}
 use base.Logic.{SProp, emp}
 use prog.Model.{Model}
@@ -12,17 +12,16 @@ use contract.Running.{Running}
 use denote.Triple.Entry.{Args, Res}
 use denote.Triple.Spec.{Meets}
 use denote.Triple.Clauses.{Ended, AtExit, Clauses, closing}
-use Rattle.phase_lists.specs.Lists.{lists_of}
-use Rattle.grammar.specs.Meaning.{descriptor, reading_of}
+use Rattle.line.specs.Lines.{meant_by}
 use Rattle.line.specs.contracts.Line as L
 use Rattle.line.proofs.Line as L_code
 use Rattle.lent.specs.contracts.tick_in_place as lent
 use Rattle.lent.proofs.tick_in_place.Symbol as lent_code
 use Rattle.descriptor.specs.Refusals.{sound_configuration}
-use Rattle.demand.specs.Calls.{Call, ask, hook, period, no_period, audit, tick}
+use Rattle.demand.specs.Calls.{Call, describe, ask, hook, period, no_period, audit, tick}
 use Rattle.demand.specs.Calls.{Answer, accepted, refused, ticked}
 use Rattle.demand.specs.Machine.{verdict_told, outcome, answered, ticketed, audited, moved, step, entry_for}
-use Rattle.demand.specs.Machine.{parts, text, commit, past, after_calls, entries, history}
+use Rattle.demand.specs.Machine.{commit, past, after_calls, entries, history}
 
 -- of the values passed to a call, its result, and the values passed as they are after it
 abbrev pub Of {ℓ} : Ended → Type ℓ → Type ℓ
