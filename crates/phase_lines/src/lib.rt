@@ -9,7 +9,6 @@ mod tickets;
 
 use descriptor::{BurstPart, TariffPart};
 use line::{Answered, Line};
-use script::PhaseLine;
 use tariff::Phase;
 
 // How many were read, whether one was bad, and the seven lists of nine: list i stands from place 9 i on.
@@ -80,14 +79,14 @@ impl Phases {
         self
     }
 
-    // With one more phase line.
+    // With one more phase line, which may be bad.
     #[tactic(auto, unfolding(crate::specs::Gathering::with_line))]
-    pub fn with(self, line: PhaseLine) -> Phases
-        ensures { result ≡ with_line self line }
+    pub fn with(self, phase: Option<Phase>) -> Phases
+        ensures { result ≡ with_line self phase }
     {
-        match line {
-            PhaseLine::Numbers(p) => self.with_phase(p),
-            PhaseLine::Bad => Phases { bad: true, ..self },
+        match phase {
+            Some(p) => self.with_phase(p),
+            None => Phases { bad: true, ..self },
         }
     }
 
