@@ -3,15 +3,19 @@ ghost use Rattle.std.specs.Prelude.{◌≡◌};
 ghost use Rattle.dispatcher.specs.Dispatch.{bad_row};
 ghost use Rattle.group.specs.Groups.{rate_of, outside, verdict_of};
 
-use descriptor::{BurstPart, Refusal, TariffPart};
+use descriptor::{BurstPart, Descriptor, Refusal, TariffPart};
 use line::{Answered, Line, Verdict};
+use phase_lists::PhaseLists;
 
 // The rate command, burst keep, on one line.
 pub(crate) fn rated(line: Line, interval: u32) -> Answered
     ensures { result ≡ rate_of line interval }
 {
-    let rate = TariffPart::Rate { interval };
-    line.describe(rate, &[], &[], &[], &[], &[], &[], &[], BurstPart::Keep)
+    line.describe(Descriptor::Parts {
+        tariff: TariffPart::Rate { interval },
+        lists: PhaseLists::empty(),
+        burst: BurstPart::Keep,
+    })
 }
 
 // Whether a row of n is refused: it is empty or longer than 64.

@@ -21,9 +21,9 @@ returns-in_err-rated c =
     let ps = c.args.places.now in
     let in_row = sym c.any_outside.ensures ∙ c.if-any_outside.false in
     let refuses : verdict_of ls ps c.args.interval ≡ Err c.in_err-rated.field-0.0 =
-        verdict-asked ls ps _ (sym c.is_bad_row.ensures ∙ c.if-is_bad_row.false) in_row
-        ∙ sym c.loop-place.invariant
-        ∙ refused_at ls ps _ _ c.loop-place-test.true _ _ in_row c.rated.ensures _ c.in_err-rated.was in
+    verdict-asked ls ps _ (sym c.is_bad_row.ensures ∙ c.if-is_bad_row.false) in_row
+    ∙ sym c.loop-place.invariant
+    ∙ refused_at ls ps _ _ c.loop-place-test.true _ _ in_row c.rated.ensures _ c.in_err-rated.was in
     rw refuses (search rules)
 
 pub loop-place-preserved : goal.loop-place-preserved
