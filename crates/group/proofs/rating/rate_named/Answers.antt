@@ -14,7 +14,7 @@ loop-i-preserved c =
     let ls = c.args.row.now in
     let f = named c.args.places.now in
     elim c.if-is_named.branch [
-      then-is_named w ↦ rw (w.row-is, w.rated.ensures, c.loop-i.invariant, add-one) (rated_step f _ c.loop-i.i ls _ c.loop-i-test.true (sym c.is_named.ensures ∙ w.if-is_named.true))
+      | then-is_named w ↦ rw (w.row-is, w.rated.ensures, c.loop-i.invariant, add-one) (rated_step f _ c.loop-i.i ls _ c.loop-i-test.true (sym c.is_named.ensures ∙ w.if-is_named.true))
       | else-is_named w ↦ rw (w.row-is, c.loop-i.invariant, add-one) (other_step f _ c.loop-i.i ls _ c.loop-i-test.true (sym c.is_named.ensures ∙ w.if-is_named.false))
     ]
 
