@@ -1,3 +1,3 @@
 -- The files of this folder, lowest first.
-pub mod AskLaws
 pub mod RateLaws
+pub mod AskLaws

@@ -17,7 +17,8 @@ use Rattle.descriptor.specs.declared.BurstPart.TheVariants.{Keep}
 use Rattle.tariff.specs.Tariffs.{is_endless}
 use Rattle.burst.specs.Bursts.{is_running}
 use Rattle.state.specs.States.{with_rate}
-use Rattle.line.specs.Lines.{with_state, tariff_changed, burst_changed, answered_by}
+use Rattle.std.specs.Result.{result_and}
+use Rattle.line.specs.Lines.{Verdict, with_state, tariff_changed, burst_changed, answered_by}
 use Rattle.line.specs.declared.Line.{Line}
 use Rattle.line.specs.declared.Answered.{Answered}
 use Rattle.line.proofs.Described.{describe-is}
@@ -42,6 +43,13 @@ module _ (l : Line) (P : ℕ) where
       by : (u : Ruling) → (answered_by u l rated 0).verdict ≡ Ok k → (answered_by u l rated 0).verdict ≡ Ok 0
       by (Ok tt) q = refl
       by (Err r) q = absurd (let o : ◌≡◌ {A = ℕ} 0 1 = cc in omega arith)
+
+  pub rate-plain : result_and (rate_of l P).verdict (Ok 0) ≡ (rate_of l P).verdict
+  rate-plain = by (rate_of l P).verdict refl
+    where
+      by : (v : Verdict) → (rate_of l P).verdict ≡ v → result_and v (Ok 0) ≡ v
+      by (Ok k) e = sym (sym e ∙ rate-cancels k e)
+      by (Err r) e = refl
 
 -- ---- the row: the first i lines have the rate where f holds of their places
 abbrev pub row_at : (ℕ → Bool) → ℕ → ℕ → List Line → List Line
