@@ -250,7 +250,7 @@ impl Map {
         ensures { IfSome result (λ words. words ≡ words_of (map_of self.xs self.ns)) }
     {
         let row = self.xs as usize;
-        match self.xs + self.ns {
+        match self.len() {
             100 => Some([hundred_word(row, 0), hundred_word(row, 1)]),
             10 => Some([ten_word(row).into(), 0]),
             _ => None,
