@@ -11,7 +11,7 @@ use lib.ListN.{length, get_or, set, take, drop, length-set, length-drop}
 use lib.Seq.{get_or-take, get_or-drop, get_or-set_same, get_or-set_other, length-take-le}
 use Rattle.tariff.specs.declared.Phase.{Phase}
 use Rattle.phase_lists.specs.Lists.{phase_of, first_phases, phases_of, one_length}
-use Rattle.script.specs.declared.PhaseLine.TheVariants.{Numbers}
+use Rattle.std.specs.Prelude.{Some}
 use Rattle.phase_lines.specs.declared.Phases.{Phases}
 use Rattle.phase_lines.specs.Gathering.{none_read, stored, with_line, first_of, lists_in, with_all, AsRead}
 
@@ -101,7 +101,7 @@ module _ (n : List ℕ) (k : ℕ) (p : Phase) (size : length n ≡ 63) (room : k
 next : Phases → Phase → Phases
 next s p = record { taken = s.taken + 1; bad = s.bad; lists = stored s.lists s.taken p }
 
-taken_in : (s : Phases) (p : Phase) → s.taken < 9 → with_line s (Numbers p) ≡ next s p
+taken_in : (s : Phases) (p : Phase) → s.taken < 9 → with_line s (Some p) ≡ next s p
 unfolding with_line next
 taken_in s p few = rw (lt-ltb s.taken 9 few)
 

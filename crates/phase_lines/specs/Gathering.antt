@@ -1,10 +1,8 @@
 -- The phase lines that a descriptor of a script has got so far, and the seven lists that they make.
 use Rattle.std.specs.Prelude.{◌≡◌, true, false, cond, List, [], ◌∷◌, ℕ, ◌+◌, ◌≤◌, ltb, length, set, take, drop}
-use Rattle.std.specs.Prelude.{replicate}
+use Rattle.std.specs.Prelude.{Option, Some, None, replicate}
 use Rattle.tariff.specs.declared.Phase.{Phase}
 use Rattle.phase_lists.specs.Lists.{Lists, lists_of, phases_of, one_length}
-use Rattle.script.specs.declared.PhaseLine.{PhaseLine}
-use Rattle.script.specs.declared.PhaseLine.TheVariants.{Numbers, Bad}
 use Rattle.phase_lines.specs.declared.Phases.{Phases}
 
 -- before the first line
@@ -29,9 +27,9 @@ with_phase s p =
     (record { taken = s.taken + 1; bad = s.bad; lists = stored s.lists s.taken p }) s
 
 -- a bad line leaves the lists as they are
-unfoldable pub with_line : Phases → PhaseLine → Phases
-with_line s (Numbers p) = with_phase s p
-with_line s Bad = record { taken = s.taken; bad = true; lists = s.lists }
+unfoldable pub with_line : Phases → Option Phase → Phases
+with_line s (Some p) = with_phase s p
+with_line s None = record { taken = s.taken; bad = true; lists = s.lists }
 
 -- the first k numbers of each list
 abbrev pub first_of : List ℕ → ℕ → Lists
@@ -47,7 +45,7 @@ lists_in s = first_of s.lists s.taken
 -- with the lines of these phases
 unfoldable pub with_all : Phases → List Phase → Phases
 with_all s [] = s
-with_all s (p ∷ ps) = with_all (with_line s (Numbers p)) ps
+with_all s (p ∷ ps) = with_all (with_line s (Some p)) ps
 
 -- after the lines of up to nine phases: seven lists of one length, whose phases are these
 abbrev pub AsRead : Type 0
