@@ -20,16 +20,11 @@ pub struct Phases {
 }
 
 // The first k numbers of the list that stands from a place on.
-pub(crate) fn part(lists: &[u32], from: usize, k: usize) -> &[u32]
+fn part(lists: &[u32], from: usize, k: usize) -> &[u32]
     ensures { result.now ≡ take k (drop from lists.now) }
 {
-    if from <= lists.len() {
-        if k <= lists.len() - from {
-            return &lists[from..from + k];
-        }
-        return &lists[from..];
-    }
-    &lists[0..0]
+    let list = lists.get(from..).unwrap_or(&[]);
+    &list[..k.min(list.len())]
 }
 
 impl Phases {
@@ -62,13 +57,13 @@ impl Phases {
         self
     }
 
-    // With one more phase line: the phase that it says, or None where it is bad.
+    // With one more phase line, which may be bad.
     #[tactic(auto, unfolding(crate::specs::Gathering::with_line))]
-    pub fn with(self, line: Option<Phase>) -> Phases
-        ensures { result ≡ with_line self line }
+    pub fn with(self, phase: Option<Phase>) -> Phases
+        ensures { result ≡ with_line self phase }
     {
-        match line {
-            Some(phase) => self.with_phase(phase),
+        match phase {
+            Some(p) => self.with_phase(p),
             None => Phases { bad: true, ..self },
         }
     }

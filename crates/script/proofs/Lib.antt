@@ -1,8 +1,6 @@
 -- The laws of words, numbers and readers, and what the proofs of the functions cite.
 pub mod WordLaws
 pub mod NumberLaws
-pub mod ReadLaws
-mod CardLaws
-mod GroupLaws
+pub mod GroupLaws
 pub mod TextLaws
 pub mod ReadBack

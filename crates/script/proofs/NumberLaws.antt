@@ -1,68 +1,52 @@
 -- A number is read digit by digit: each digit takes the value on, and a value past the top never comes back.
-use mathlib.Core.Bool.{Bool, true, false, cond, ◌&&◌}
-use mathlib.Core.Path.{◌≡◌, refl}
-use mathlib.Core.List.{List, [], ◌∷◌}
-use Prim.Native.Nat.{ℕ, ◌+◌, ◌-◌, ◌*◌, ◌≤◌, ◌<◌}
-use native.Mathlib.Numerals.{add-one}
-use native.Mathlib.Omega.{arith}
-use borrow.Author.Tests.{le-leb, lt-leb}
-use lib.Dec.{leb}
-use lib.ListN.{length, get_or, drop}
-use lib.Seq.{drop-cons}
-use Rattle.script.specs.Numbers.{top, all_digits, value_after, number_of}
-use Rattle.script.specs.declared.numbers.Number.{Number}
-use Rattle.script.specs.declared.numbers.Number.TheVariants.{Value, None}
+use Rattle.std.proofs.Common.{◌≡◌, ◌∙◌, sym, refl, ℕ, ◌+◌, ◌-◌, ◌*◌, ◌≤◌, ◌<◌, Bool, true, false, ◌&&◌, nat_le, List, [], ◌∷◌, length, get_or, drop, drop-cons, add-one, arith}
+use Rattle.std.specs.Prelude.{◌==◌, if◌then◌else◌, Option, Some, None}
+use Rattle.std.proofs.lemmas.Bool.Decides.{nat_tests}
+use Rattle.script.specs.Numbers.{top, is_digit, all_digits, value_after, number_of}
 
 -- the number that goes on with the bytes l after the digits of the value v
-unfoldable pub number_after : ℕ → List ℕ → Number
-number_after v l = cond (all_digits l && leb (value_after v l) top) (Value (value_after v l)) None
+unfoldable pub number_after : ℕ → List ℕ → Option ℕ
+number_after v l = if all_digits l && nat_le (value_after v l) top then Some (value_after v l) else None
 
 -- more digits make no smaller value
 grows : (v : ℕ) (l : List ℕ) → v ≤ value_after v l
 grows v [] = omega arith
 grows v (b ∷ l) = let g = grows (10 * v + (b - 48)) l in omega arith
 
-never : (t : Bool) (v : ℕ) → cond (t && false) (Value v) None ≡ None
-never true v = refl
-never false v = refl
-
 -- a value past the top is no number, whatever follows
-pub past_top : (v : ℕ) (l : List ℕ) → top < v → number_after v l ≡ None
+past_top : (v : ℕ) (l : List ℕ) → top < v → number_after v l ≡ None
 unfolding number_after
-past_top v l h = let g = grows v l in rw (lt-leb (value_after v l) top (omega arith), never (all_digits l))
+past_top v l h = let g = grows v l in one (all_digits l) (nat_le (value_after v l) top) (grind (arith, nat_tests))
+  where
+    one : (s t : Bool) → t ≡ false → (if s && t then Some (value_after v l) else None) ≡ None
+    one true t e = rw e
+    one false t e = refl
 
 -- no more digits: the value is the number
-pub no_more : (v : ℕ) → v ≤ top → number_after v [] ≡ Value v
+pub no_more : (v : ℕ) → v ≤ top → number_after v [] ≡ Some v
 unfolding number_after
-no_more v h = rw (le-leb v top h)
+no_more v h = grind (arith, nat_tests)
 
 -- a word that is not empty is the number of its digits after none
-pub from_zero : (l : List ℕ) → (length l ≡ 0 → ⊥) → number_after 0 l ≡ number_of l
+pub from_zero : (l : List ℕ) → (length l == 0) ≡ false → number_after 0 l ≡ number_of l
 unfolding number_after
-from_zero [] h = absurd (h refl)
+from_zero [] h = cc
 from_zero (b ∷ l) h = refl
-
--- an empty word is no number
-pub empty-word : (l : List ℕ) → length l ≡ 0 → number_of l ≡ None
-empty-word [] h = refl
-empty-word (b ∷ l) h = let z : ⊥ = omega arith in absurd z
 
 module _ (v : ℕ) (l : List ℕ) (i : ℕ) (within : i < length l) where
   -- a digit takes the value on
-  pub digit-on : 48 ≤ get_or l i 0 → get_or l i 0 ≤ 57 → number_after v (drop i l) ≡ number_after (10 * v + (get_or l i 0 - 48)) (drop (i + 1) l)
+  digit-on : is_digit (get_or l i 0) ≡ true → number_after v (drop i l) ≡ number_after (10 * v + (get_or l i 0 - 48)) (drop (i + 1) l)
   unfolding number_after
-  digit-on low high = rw (add-one, drop-cons l i 0 within, le-leb 48 (get_or l i 0) low, le-leb (get_or l i 0) 57 high)
+  digit-on h = rw (add-one, drop-cons l i 0 within, h)
 
-  -- a byte below `0` makes no number
-  pub below-digits : get_or l i 0 < 48 → number_after v (drop i l) ≡ None
-  unfolding number_after
-  below-digits h = rw (drop-cons l i 0 within, lt-leb 48 (get_or l i 0) h)
+  pub taken : {w : ℕ} → is_digit (get_or l i 0) ≡ true → w ≡ 10 * v + (get_or l i 0 - 48) → number_after w (drop (i + 1) l) ≡ number_after v (drop i l)
+  taken h e = rw e (sym (digit-on h))
 
-  -- nor does one above `9`
-  pub above-digits : 57 < get_or l i 0 → number_after v (drop i l) ≡ None
+  -- another byte makes no number
+  pub no_digit : is_digit (get_or l i 0) ≡ false → number_after v (drop i l) ≡ None
   unfolding number_after
-  above-digits h = rw (drop-cons l i 0 within, lt-leb (get_or l i 0) 57 h, and-false (leb 48 (get_or l i 0)))
-    where
-      and-false : (t : Bool) → (t && false) ≡ false
-      and-false true = refl
-      and-false false = refl
+  no_digit h = rw (drop-cons l i 0 within, h)
+
+  -- nor does a digit that takes the value past the top
+  pub over_top : is_digit (get_or l i 0) ≡ true → top < 10 * v + (get_or l i 0 - 48) → number_after v (drop i l) ≡ None
+  over_top h past = digit-on h ∙ past_top (10 * v + (get_or l i 0 - 48)) (drop (i + 1) l) past

@@ -1,17 +1,12 @@
 -- A number that is printed reads back as itself.
-use mathlib.Core.Bool.{Bool, true, false, cond, ◌&&◌}
-use mathlib.Core.Path.{◌≡◌, refl, sym, ◌∙◌}
-use mathlib.Core.List.{List, [], ◌∷◌, ◌++◌}
-use Prim.Native.Nat.{ℕ, zero, suc, ◌+◌, ◌-◌, ◌*◌, ◌/◌, ◌%◌, ◌≤◌, ◌<◌}
-use native.Mathlib.Omega.{arith}
-use borrow.Author.Tests.{le-leb, ltb-true, ltb-false}
-use lib.Dec.{ltb}
-use lib.ListN.{length, length-append}
+use Rattle.std.proofs.Common.{◌≡◌, refl, sym, ◌∙◌, ℕ, ◌+◌, ◌-◌, ◌*◌, ◌/◌, ◌%◌, ◌≤◌, ◌<◌, Bool, true, false, ◌&&◌, nat_le, List, [], ◌∷◌, ◌++◌, length, length-append, arith}
+use Rattle.std.specs.Prelude.{◌==◌, Some}
+use Rattle.std.proofs.lemmas.Bool.Decides.{nat_tests}
+use Rattle.std.proofs.lemmas.Fmt.{decimal_by_steps}
 use Rattle.script.specs.Numbers.{top, is_digit, all_digits, value_after, value_of, number_of}
-use Rattle.script.specs.declared.numbers.Number.TheVariants.{Value}
-use Rattle.printing.specs.Text.{digit, digits_in, digits_of}
+use Rattle.printing.specs.Text.{digits_of}
 use Rattle.script.proofs.NumberLaws.{number_after, from_zero}
-use Rattle.printing.proofs.DigitLaws.{power}
+use Rattle.printing.proofs.DigitLaws.{digits_decimal}
 
 -- the value of digits with one more
 value_snoc : (v : ℕ) (l : List ℕ) (b : ℕ) → value_after v (l ++ (b ∷ [])) ≡ 10 * value_after v l + (b - 48)
@@ -19,11 +14,11 @@ value_snoc v [] b = refl
 value_snoc v (a ∷ l) b = value_snoc (10 * v + (a - 48)) l b
 
 -- a digit is a digit
-digit-is : (d : ℕ) → d < 10 → is_digit (digit d) ≡ true
-digit-is d h = rw (le-leb 48 (digit d) (omega arith), le-leb (digit d) 57 (omega arith))
+digit-is : (d : ℕ) → d < 10 → is_digit (48 + d) ≡ true
+digit-is d h = grind (arith, nat_tests)
 
 -- one more digit leaves digits
-digits_snoc : (l : List ℕ) (d : ℕ) → d < 10 → all_digits l ≡ true → all_digits (l ++ (digit d ∷ [])) ≡ true
+digits_snoc : (l : List ℕ) (d : ℕ) → d < 10 → all_digits l ≡ true → all_digits (l ++ ((48 + d) ∷ [])) ≡ true
 digits_snoc [] d h e = rw (digit-is d h)
 digits_snoc (a ∷ l) d h e = both (is_digit a) (all_digits l) e (digits_snoc l d h)
   where
@@ -32,31 +27,30 @@ digits_snoc (a ∷ l) d h e = both (is_digit a) (all_digits l) e (digits_snoc l 
     both false t q f = q
 
 -- a text of digits with the value n
-pub record Reads (l : List ℕ) (n : ℕ) : Type 0 where
+record Reads (n : ℕ) (l : List ℕ) : Type 0 where
   pub some : 1 ≤ length l
   pub digits : all_digits l ≡ true
   pub value : value_of l ≡ n
 
-one_more_lem : (t : Bool) (l : List ℕ) (n : ℕ) → ltb n 10 ≡ t → (9 < n → Reads l (n / 10)) → Reads (cond t (digit n ∷ []) (l ++ (digit (n % 10) ∷ []))) n
-one_more_lem true l n e r =
-    let h = ltb-true n 10 e in record { some = omega arith; digits = rw (digit-is n h); value = omega arith }
-one_more_lem false l n e r =
-    let q = r (ltb-false n 10 e) in
-    let v = q.value in
+one_digit : (n : ℕ) → n < 10 → Reads n ((48 + n) ∷ [])
+one_digit n h = record { some = omega arith; digits = rw (digit-is n h); value = omega arith }
+
+more_digits : (n : ℕ) (l : List ℕ) → 10 ≤ n → Reads (n / 10) l → Reads n (l ++ ((48 + n % 10) ∷ []))
+more_digits n l h r =
+    let v = r.value in
     record {
-      some = omega (arith, length-append l (digit (n % 10) ∷ []));
-      digits = digits_snoc l (n % 10) (omega arith) q.digits;
-      value = value_snoc 0 l (digit (n % 10)) ∙ omega arith;
+      some = omega (arith, length-append l ((48 + n % 10) ∷ []));
+      digits = digits_snoc l (n % 10) (omega arith) r.digits;
+      value = value_snoc 0 l (48 + n % 10) ∙ omega arith;
     }
 
--- the digits of a number of at most k places have its value
-value-digits : (k n : ℕ) → n < power (suc k) → Reads (digits_in (suc k) n) n
-value-digits zero n h = one_more_lem (ltb n 10) [] n refl (λ g. let z : ⊥ = omega arith in absurd z)
-value-digits (suc k) n h = one_more_lem (ltb n 10) (digits_in (suc k) (n / 10)) n refl (λ g. value-digits k (n / 10) (omega arith))
+reads : (l : List ℕ) (n : ℕ) → n ≤ top → Reads n l → number_of l ≡ Some n
+unfolding number_after
+reads l n h r =
+    let some : (length l == 0) ≡ false = let s = r.some in grind (arith, nat_tests) in
+    let fits : nat_le n top ≡ true = grind (arith, nat_tests) in
+    sym (from_zero l some) ∙ rw (r.digits, r.value, fits)
 
 -- what is printed of a number reads back as that number
-pub read_back : (n : ℕ) → n ≤ top → number_of (digits_of n) ≡ Value n
-unfolding digits_of number_after
-read_back n h =
-    let r = value-digits 9 n (omega arith) in
-    sym (from_zero (digits_in 10 n) (λ e. let s = r.some in omega arith)) ∙ rw (r.digits, r.value, le-leb n top h)
+pub read_back : (n : ℕ) → n ≤ top → number_of (digits_of n) ≡ Some n
+read_back n h = reads (digits_of n) n h (rw (digits_decimal n (omega arith)) (decimal_by_steps Reads one_digit more_digits n (omega arith)))

@@ -1,32 +1,23 @@
 -- The text of a card's line lies within the line, and it is what stands from one of its words on.
-use mathlib.Core.Bool.{Bool, true, false, cond}
-use mathlib.Core.Path.{◌≡◌, refl, sym, ap, ◌∙◌}
-use mathlib.Core.List.{List, [], ◌∷◌}
-use Prim.Native.Nat.{ℕ, zero, suc, ◌+◌, ◌-◌, ◌≤◌}
-use native.Mathlib.Omega.{arith}
-use lib.ListN.{length, drop}
-use lib.Seq.{drop-drop}
+use Rattle.std.proofs.Common.{◌≡◌, refl, sym, ap, ◌∙◌, ℕ, zero, suc, ◌+◌, ◌-◌, ◌≤◌, Bool, true, false, List, [], ◌∷◌, length, drop, drop-drop, arith}
+use Rattle.std.specs.Prelude.{Option, Some, None, if◌then◌else◌}
 use Rattle.script.specs.Words.{same, words_of}
 use Rattle.script.specs.Numbers.{number_of}
-use Rattle.script.specs.Runs.{ends_run, past_run, past_blanks}
-use Rattle.script.specs.Readers.{Parsed, failed, parsed, Reader, after, give, fail, or_else, first, rest, valued, no_word, whole}
+use Rattle.script.specs.Runs.{ends_run, past_run, past_blanks, past_first}
+use Rattle.script.specs.Readers.{Parsed, Reader, after, give, fail, or_else, first, rest, valued, no_word, whole}
 use Rattle.script.specs.Commands.{configure, period, describe, hook, run}
-use Rattle.script.specs.Cards.{of_row, of_place, mapped, all, is_text, given, commit, placed, at_place, grouped, group, card_command, past_first, past_words, start_of, card_command_of}
+use Rattle.script.specs.Cards.{of_row, of_place, mapped, all, is_text, given, commit, other, placed, at_place, grouped, group, card_command, past_words, start_of, card_command_of}
 use Rattle.script.specs.declared.Command.{Command}
-use Rattle.script.specs.declared.Command.TheVariants.{Bad, Configure, Period, NoPeriod, Describe, OnHook, Run}
+use Rattle.script.specs.declared.Command.TheVariants.{Configure, Period, NoPeriod, Describe, OnHook, Run}
 use Rattle.script.specs.declared.Places.{Places}
 use Rattle.script.specs.declared.Giving.{Giving}
 use Rattle.script.specs.declared.Giving.TheVariants.{Take, Ask, Commit}
 use Rattle.script.specs.declared.CardCommand.{CardCommand}
-use Rattle.script.specs.declared.CardCommand.TheVariants.{Bad as BadCard, Configure as Add}
-use Rattle.script.specs.declared.CardCommand.TheVariants.{On, Audit, Text, Tick, Group}
-use Rattle.script.specs.declared.numbers.Number.{Number}
-use Rattle.script.specs.declared.numbers.Number.TheVariants.{Value, None}
+use Rattle.script.specs.declared.CardCommand.TheVariants.{Configure as Add, On, Audit, Text, Tick, Group}
 use Rattle.printing.specs.Bytes.{bytes}
 
 -- where the text of a command begins, 0 where it has none
 abbrev from_of : CardCommand → ℕ
-from_of BadCard = 0
 from_of (Add d g clock) = 0
 from_of (On place giving c) = 0
 from_of (Audit place) = 0
@@ -34,21 +25,25 @@ from_of (Text place giving from) = from
 from_of (Tick t) = 0
 from_of (Group p) = 0
 
+-- where there is one
+abbrev from_in : Option CardCommand → ℕ
+from_in None = 0
+from_in (Some c) = from_of c
+
 -- and that of what was read
 abbrev begun : Parsed CardCommand → ℕ
-begun failed = 0
-begun (parsed c ws) = from_of c
+begun None = 0
+begun (Some (c, ws)) = from_of c
 
-whole-begun : (p : Parsed CardCommand) (n : ℕ) → begun p ≤ n → from_of (whole BadCard p) ≤ n
-whole-begun failed n h = omega arith
-whole-begun (parsed c ws) n h = one (no_word ws)
+whole-begun : (p : Parsed CardCommand) (n : ℕ) → begun p ≤ n → from_in (whole p) ≤ n
+whole-begun None n h = omega arith
+whole-begun (Some (c, ws)) n h = one (no_word ws)
   where
-    one : (t : Bool) → from_of (cond t c BadCard) ≤ n
+    one : (t : Bool) → from_in (if t then Some c else None) ≤ n
     one true = h
     one false = omega arith
 
-row-begun : (c : Command) → from_of (of_row c) ≡ 0
-row-begun Bad = refl
+row-begun : (c : Command) → from_in (of_row c) ≡ 0
 row-begun (Configure d g clock) = refl
 row-begun (Period n) = refl
 row-begun NoPeriod = refl
@@ -56,30 +51,29 @@ row-begun (Describe t k u) = refl
 row-begun (OnHook h) = refl
 row-begun (Run t) = refl
 
-place-begun : (place : ℕ) (giving : Giving) (c : Command) → from_of (of_place place giving c) ≡ 0
-place-begun place giving Bad = refl
-place-begun place giving (Configure d g clock) = refl
-place-begun place giving (Period n) = refl
-place-begun place giving NoPeriod = refl
-place-begun place giving (Describe t k u) = refl
-place-begun place giving (OnHook h) = refl
-place-begun place giving (Run t) = refl
+place-begun : (place : ℕ) (giving : Giving) (c : Command) → from_in (of_place place giving c) ≡ 0
+place-begun place giving c = refl
 
 -- what `meter` reads has no text
-mapped-begun : (f : Command → CardCommand) → ((c : Command) → from_of (f c) ≡ 0) → (r : Reader Command) (ws : List (List ℕ)) (n : ℕ) → begun (mapped f r ws) ≤ n
+mapped-begun : (f : Command → Option CardCommand) → ((c : Command) → from_in (f c) ≡ 0) → (r : Reader Command) (ws : List (List ℕ)) (n : ℕ) → begun (mapped f r ws) ≤ n
 mapped-begun f e r ws n = at (r ws)
   where
-    at : (p : Parsed Command) → begun (after p (λ c. give (f c))) ≤ n
-    at failed = omega arith
-    at (parsed c vs) = let z = e c in omega arith
+    made : (o : Option CardCommand) (vs : List (List ℕ)) → from_in o ≡ 0 → begun (valued o vs) ≤ n
+    made None vs z = omega arith
+    made (Some c) vs z = omega arith
 
-either : (t : Bool) (r s : Reader CardCommand) (ws : List (List ℕ)) (n : ℕ) → begun (r ws) ≤ n → begun (s ws) ≤ n → begun (cond t r s ws) ≤ n
+    at : (p : Parsed Command) → begun (after p (λ c. valued (f c))) ≤ n
+    at None = omega arith
+    at (Some (c, vs)) = made (f c) vs (e c)
+
+either : (t : Bool) (r s : Reader CardCommand) (ws : List (List ℕ)) (n : ℕ) → begun (r ws) ≤ n → begun (s ws) ≤ n
+    → begun ((if t then r else s) ws) ≤ n
 either true r s ws n a b = a
 either false r s ws n a b = b
 
 or_begun : (p q : Parsed CardCommand) (n : ℕ) → begun p ≤ n → begun q ≤ n → begun (or_else p q) ≤ n
-or_begun failed q n a b = b
-or_begun (parsed c ws) q n a b = a
+or_begun None q n a b = b
+or_begun (Some r) q n a b = a
 
 given-begun : (giving : Giving) (from place : ℕ) (ws : List (List ℕ)) → begun (given giving from place ws) ≤ from
 given-begun giving from place ws =
@@ -93,37 +87,40 @@ given-begun giving from place ws =
 commit-begun : (from place : ℕ) (ws : List (List ℕ)) → begun (commit from place ws) ≤ from
 commit-begun from place ws = one (number_of (first ws))
   where
-    one : (m : Number) → begun (after (valued m (rest ws)) (λ n. given (Commit n) from place)) ≤ from
-    one (Value n) = given-begun (Commit n) from place (rest ws)
+    one : (m : Option ℕ) → begun (after (valued m (rest ws)) (λ n. given (Commit n) from place)) ≤ from
+    one (Some n) = given-begun (Commit n) from place (rest ws)
     one None = omega arith
 
 -- no text begins past n where no word does
 module _ (start : ℕ → ℕ) (n : ℕ) (within : (k : ℕ) → start k ≤ n) where
-  placed-begun : (place : ℕ) (ws : List (List ℕ)) → begun (placed start place ws) ≤ n
-  placed-begun place ws =
+  other-begun : (place : ℕ) (ws : List (List ℕ)) → begun (other start place ws) ≤ n
+  other-begun place ws =
       let w = first ws in
       let vs = rest ws in
       let no : begun (fail vs) ≤ n = omega arith in
       let f = of_place place Take in
       let z = place-begun place Take in
-      let h0 = within 0 in
       let h1 = within 1 in
       let h2 = within 2 in
-      let take = given-begun Take (start 0) place ws in
       let ask = given-begun Ask (start 1) place vs in
       let committed = commit-begun (start 2) place vs in
-      or_begun (given Take (start 0) place ws) _ n (omega arith)
-      (either (same w (bytes "audit")) (give (Audit place)) _ vs n (omega arith)
+      either (same w (bytes "audit")) (give (Audit place)) _ vs n (omega arith)
       (either (same w (bytes "rp")) (mapped f period) _ vs n (mapped-begun f z period vs n)
       (either (same w (bytes "hook")) (mapped f hook) _ vs n (mapped-begun f z hook vs n)
       (either (same w (bytes "ask")) (given Ask (start 1) place) _ vs n (omega arith)
-      (either (same w (bytes "commit")) (commit (start 2) place) fail vs n (omega arith) no)))))
+      (either (same w (bytes "commit")) (commit (start 2) place) fail vs n (omega arith) no))))
+
+  placed-begun : (place : ℕ) (ws : List (List ℕ)) → begun (placed start place ws) ≤ n
+  placed-begun place ws =
+      let h0 = within 0 in
+      let take = given-begun Take (start 0) place ws in
+      or_begun (given Take (start 0) place ws) _ n (omega arith) (other-begun place ws)
 
   at-begun : (ws : List (List ℕ)) → begun (at_place start ws) ≤ n
   at-begun ws = one (number_of (first ws))
     where
-      one : (m : Number) → begun (after (valued m (rest ws)) (λ place. placed start place)) ≤ n
-      one (Value place) = placed-begun place (rest ws)
+      one : (m : Option ℕ) → begun (after (valued m (rest ws)) (λ place. placed start place)) ≤ n
+      one (Some place) = placed-begun place (rest ws)
       one None = omega arith
 
 -- nor has a group
@@ -131,11 +128,11 @@ group-begun : (ws : List (List ℕ)) (n : ℕ) → begun (group ws) ≤ n
 group-begun ws n = one (grouped ws)
   where
     one : (p : Parsed (ℕ × Places)) → begun (after p (λ g. give (Group g.0))) ≤ n
-    one failed = omega arith
-    one (parsed g vs) = omega arith
+    one None = omega arith
+    one (Some (g, vs)) = omega arith
 
 -- a text begins within its line
-pub text-within : (l : List ℕ) (place : ℕ) (giving : Giving) (from : ℕ) → card_command_of l ≡ Text place giving from → from ≤ length l
+pub text-within : (l : List ℕ) (place : ℕ) (giving : Giving) (from : ℕ) → card_command_of l ≡ Some (Text place giving from) → from ≤ length l
 text-within l place giving from e =
     let n = length l in
     let start = start_of l (past_words 2 l) in
@@ -149,7 +146,7 @@ text-within l place giving from e =
     (either (same w (bytes "at")) (at_place start) _ vs n (at-begun start n within vs)
     (either (same w (bytes "group")) group fail vs n (group-begun vs n) no)))
     in
-    let q = ap from_of e in
+    let q = ap from_in e in
     let z = whole-begun (card_command start (words_of l)) n h in
     omega arith
 
@@ -171,7 +168,7 @@ end_run : (blanks : Bool) (l : List ℕ) → End l (past_run blanks l)
 end_run blanks [] = end_self []
 end_run blanks (b ∷ l) = one (ends_run blanks b) (end_run blanks l)
   where
-    one : (t : Bool) → End l (past_run blanks l) → End (b ∷ l) (cond t (b ∷ l) (past_run blanks l))
+    one : (t : Bool) → End l (past_run blanks l) → End (b ∷ l) (if t then b ∷ l else past_run blanks l)
     one true e = end_self (b ∷ l)
     one false e = end_more b l (past_run blanks l) e
 

@@ -1,48 +1,42 @@
 -- The lines that `card` reads.
-use Rattle.std.specs.Prelude.{ℕ, zero, suc, ◌-◌, Bool, cond, List, [], ◌∷◌, ◌++◌, length, take, replicate}
+use Rattle.std.specs.Prelude.{ℕ, zero, suc, ◌-◌, Bool, List, [], ◌∷◌, ◌++◌, length, take, replicate}
+use Rattle.std.specs.Prelude.{Option, Some, None, unwrap_or, if◌then◌else◌}
 use Rattle.script.specs.Words.{same, words_of}
-use Rattle.script.specs.Runs.{past_blanks, past_word}
-use Rattle.script.specs.Readers.{Reader, parsed, ◌>>=◌, give, ◌<|>◌, word, number, lookup, choice, no_word, whole}
+use Rattle.script.specs.Runs.{past_blanks, past_first}
+use Rattle.script.specs.Readers.{Reader, ◌>>=◌, give, valued, ◌<|>◌, word, number, lookup, choice, no_word, whole}
 use Rattle.script.specs.Commands.{configure, period, describe, hook, run}
 use Rattle.script.specs.declared.Command.{Command}
-use Rattle.script.specs.declared.Command.TheVariants.{Bad, Configure, Period, NoPeriod, Describe, OnHook, Run}
+use Rattle.script.specs.declared.Command.TheVariants.{Configure, Period, NoPeriod, Describe, OnHook, Run}
 use Rattle.script.specs.declared.Places.{Places}
 use Rattle.script.specs.declared.Giving.{Giving}
 use Rattle.script.specs.declared.Giving.TheVariants.{Take, Ask, Commit}
 use Rattle.script.specs.declared.CardCommand.{CardCommand}
-use Rattle.script.specs.declared.CardCommand.TheVariants.{Bad as BadCard, Configure as Add}
+use Rattle.script.specs.declared.CardCommand.TheVariants.{Configure as Add}
 use Rattle.script.specs.declared.CardCommand.TheVariants.{On, Audit, Text, Tick, Group}
 use Rattle.printing.specs.Bytes.{bytes}
 
 -- what a command of `meter` asks of the row: cfg adds a line to it, and run makes ticks of it
-abbrev pub of_row : Command → CardCommand
-of_row Bad = BadCard
-of_row (Configure d g clock) = Add d g clock
-of_row (Period n) = BadCard
-of_row NoPeriod = BadCard
-of_row (Describe t k u) = BadCard
-of_row (OnHook h) = BadCard
-of_row (Run t) = Tick t
+abbrev pub of_row : Command → Option CardCommand
+of_row (Configure d g clock) = Some (Add d g clock)
+of_row (Period n) = None
+of_row NoPeriod = None
+of_row (Describe t k u) = None
+of_row (OnHook h) = None
+of_row (Run t) = Some (Tick t)
 
--- a command of `meter` on the line at a place, and how it is given; a bad one stays bad
-abbrev pub of_place : ℕ → Giving → Command → CardCommand
-of_place place giving Bad = BadCard
-of_place place giving (Configure d g clock) = On place giving (Configure d g clock)
-of_place place giving (Period n) = On place giving (Period n)
-of_place place giving NoPeriod = On place giving NoPeriod
-of_place place giving (Describe t k u) = On place giving (Describe t k u)
-of_place place giving (OnHook h) = On place giving (OnHook h)
-of_place place giving (Run t) = On place giving (Run t)
+-- a command of `meter` on the line at a place, and how it is given
+abbrev pub of_place : ℕ → Giving → Command → Option CardCommand
+of_place place giving c = Some (On place giving c)
 
 -- reads what `meter` reads, and gives what it is for a card
-abbrev pub mapped : (Command → CardCommand) → Reader Command → Reader CardCommand
+abbrev pub mapped : (Command → Option CardCommand) → Reader Command → Reader CardCommand
 mapped f r = do
   c ← r
-  give (f c)
+  valued (f c)
 
 -- reads all the words that are left, and gives a
 abbrev pub all : {A : Type 0} → A → Reader A
-all a ws = parsed a []
+all a ws = Some (a, [])
 
 -- whether a word begins with `SG`
 abbrev pub is_text : List ℕ → Bool
@@ -52,7 +46,7 @@ is_text w = same (take 2 w) (bytes "SG")
 abbrev pub given : Giving → ℕ → ℕ → Reader CardCommand
 given giving from place = do
   w ← word
-  cond (is_text w) (all (Text place giving from)) (lookup w (("sig", mapped (of_place place giving) describe) ∷ []))
+  if is_text w then all (Text place giving from) else lookup w (("sig", mapped (of_place place giving) describe) ∷ [])
 
 -- what follows `commit`: N, and a descriptor
 abbrev pub commit : ℕ → ℕ → Reader CardCommand
@@ -60,17 +54,20 @@ commit from place = do
   n ← number
   given (Commit n) from place
 
--- what follows `at I`, where the next word begins at start 0, the one after it at start 1, and so on
-abbrev pub placed : (ℕ → ℕ) → ℕ → Reader CardCommand
-placed start place =
-    given Take (start 0) place
-    <|> choice
+-- what follows `at I` and is no descriptor to be taken, where the next word begins at start 0, and so on
+abbrev pub other : (ℕ → ℕ) → ℕ → Reader CardCommand
+other start place =
+    choice
     (("audit", give (Audit place))
     ∷ ("rp", mapped (of_place place Take) period)
     ∷ ("hook", mapped (of_place place Take) hook)
     ∷ ("ask", given Ask (start 1) place)
     ∷ ("commit", commit (start 2) place)
     ∷ [])
+
+-- what follows `at I`, where the next word begins at start 0, the one after it at start 1, and so on
+abbrev pub placed : (ℕ → ℕ) → ℕ → Reader CardCommand
+placed start place = given Take (start 0) place <|> other start place
 
 -- what follows `at`: I, and what is for the line there
 abbrev pub at_place : (ℕ → ℕ) → Reader CardCommand
@@ -80,7 +77,7 @@ at_place start = do
 
 -- gives a where no word is left, and reads what r does where one is
 abbrev pub unless : {A : Type 0} → A → Reader A → Reader A
-unless a r ws = cond (no_word ws) (give a ws) (r ws)
+unless a r ws = if no_word ws then give a ws else r ws
 
 -- reads at most k numbers, up to the last word
 abbrev pub numbers : ℕ → Reader (List ℕ)
@@ -121,10 +118,6 @@ card_command start =
 abbrev pub beginning : List ℕ → List ℕ → ℕ
 beginning l m = length l - length (past_blanks m)
 
--- past the first word of a line
-abbrev pub past_first : List ℕ → List ℕ
-past_first l = past_word (past_blanks l)
-
 -- past the first k words of a line
 abbrev pub past_words : ℕ → List ℕ → List ℕ
 past_words zero l = l
@@ -134,9 +127,9 @@ past_words (suc k) l = past_words k (past_first l)
 abbrev pub start_of : List ℕ → List ℕ → ℕ → ℕ
 start_of l m k = beginning l (past_words k m)
 
--- the command of a line of a card's script; anything else is bad
-abbrev pub card_command_of : List ℕ → CardCommand
-card_command_of l = whole BadCard (card_command (start_of l (past_words 2 l)) (words_of l))
+-- the command of a line of a card's script, if it is one
+abbrev pub card_command_of : List ℕ → Option CardCommand
+card_command_of l = whole (card_command (start_of l (past_words 2 l)) (words_of l))
 
 -- the places of a group, past the line's first word
 abbrev pub places : Reader Places
@@ -147,4 +140,4 @@ places = do
 
 -- the places of a line of a group; none where a line is not read so
 abbrev pub places_in : List ℕ → Places
-places_in l = whole (places_of []) (places (words_of l))
+places_in l = unwrap_or (whole (places (words_of l))) (places_of [])

@@ -1,5 +1,6 @@
 -- The lines that `meter` reads.
-use Rattle.std.specs.Prelude.{ℕ, cond, List, [], ◌∷◌, leb}
+use Rattle.std.specs.Prelude.{ℕ, List, [], ◌∷◌, Option, nat_le, if◌then◌else◌}
+use Rattle.tariff.specs.declared.Phase.{Phase}
 use Rattle.descriptor.specs.declared.TariffPart.{TariffPart}
 use Rattle.descriptor.specs.declared.TariffPart.TheVariants.{None as NoTariff, Keep as KeepTariff, Rate, Em, Phased}
 use Rattle.descriptor.specs.declared.BurstPart.{BurstPart}
@@ -9,14 +10,12 @@ use Rattle.script.specs.Words.{same, words_of}
 use Rattle.script.specs.Numbers.{number_of}
 use Rattle.script.specs.Readers.{Reader, ◌>>=◌, give, fail, word, valued, number, pair, choice, whole}
 use Rattle.script.specs.declared.Command.{Command}
-use Rattle.script.specs.declared.Command.TheVariants.{Bad, Configure, Period, NoPeriod, Describe, OnHook, Run}
-use Rattle.script.specs.declared.PhaseLine.{PhaseLine}
-use Rattle.script.specs.declared.PhaseLine.TheVariants.{Numbers, Bad as BadLine}
+use Rattle.script.specs.declared.Command.TheVariants.{Configure, Period, NoPeriod, Describe, OnHook, Run}
 use Rattle.printing.specs.Bytes.{bytes}
 
 -- gives a where n is at most the top of its kind
 abbrev pub up_to : {A : Type 0} → ℕ → ℕ → A → Reader A
-up_to most n a = cond (leb n most) (give a) fail
+up_to most n a = if nat_le n most then give a else fail
 
 -- `cfg D G clock`
 abbrev pub configure : Reader Command
@@ -29,7 +28,7 @@ configure = do
 abbrev pub period : Reader Command
 period = do
   w ← word
-  cond (same w (bytes "off")) (give NoPeriod) (do
+  if same w (bytes "off") then give NoPeriod else (do
     n ← valued (number_of w)
     give (Period n))
 
@@ -94,19 +93,19 @@ abbrev pub command : Reader Command
 command =
     choice (("cfg", configure) ∷ ("rp", period) ∷ ("sig", describe) ∷ ("hook", hook) ∷ ("run", run) ∷ [])
 
--- the command of a line; anything else is bad
-abbrev pub command_of : List ℕ → Command
-command_of l = whole Bad (command (words_of l))
+-- the command of a line, if it is one
+abbrev pub command_of : List ℕ → Option Command
+command_of l = whole (command (words_of l))
 
 -- `pri pcx repx pcn repn ci pd`
-abbrev pub phase : Reader PhaseLine
+abbrev pub phase : Reader Phase
 phase = do
   pri ← number
   (pcx, repx) ← pair
   (pcn, repn) ← pair
   (ci, pd) ← pair
-  give (Numbers (record { pri = pri; pcx = pcx; repx = repx; pcn = pcn; repn = repn; ci = ci; pd = pd }))
+  give (record { pri = pri; pcx = pcx; repx = repx; pcn = pcn; repn = repn; ci = ci; pd = pd })
 
--- the phase of a line: seven numbers, or bad
-abbrev pub phase_line_of : List ℕ → PhaseLine
-phase_line_of l = whole BadLine (phase (words_of l))
+-- the phase of a line, if it is one: seven numbers
+abbrev pub phase_line_of : List ℕ → Option Phase
+phase_line_of l = whole (phase (words_of l))

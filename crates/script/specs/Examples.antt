@@ -1,5 +1,5 @@
 -- The four lines of input of the paper's example. And lines of a card's script, and lines that are bad.
-use Rattle.std.specs.Prelude.{◌≡◌, refl, [], ◌∷◌, map, drop, replicate}
+use Rattle.std.specs.Prelude.{◌≡◌, refl, [], ◌∷◌, map, drop, replicate, Option, Some, None}
 use Prim.Native.String.{String}
 use Rattle.descriptor.specs.declared.TariffPart.TheVariants.{Em, Phased}
 use Rattle.descriptor.specs.declared.BurstPart.TheVariants.{Keep, Start}
@@ -9,39 +9,39 @@ use Rattle.script.specs.Commands.{command_of}
 use Rattle.script.specs.Readers.{whole}
 use Rattle.script.specs.Cards.{places_of, group, card_command_of, places_in}
 use Rattle.script.specs.declared.Command.{Command}
-use Rattle.script.specs.declared.Command.TheVariants.{Bad, Configure, Period, NoPeriod, Describe, OnHook, Run}
+use Rattle.script.specs.declared.Command.TheVariants.{Configure, Period, NoPeriod, Describe, OnHook, Run}
 use Rattle.script.specs.declared.Giving.TheVariants.{Take, Ask, Commit}
 use Rattle.script.specs.declared.CardCommand.{CardCommand}
-use Rattle.script.specs.declared.CardCommand.TheVariants.{Bad as BadCard, Configure as Add}
+use Rattle.script.specs.declared.CardCommand.TheVariants.{Configure as Add}
 use Rattle.script.specs.declared.CardCommand.TheVariants.{On, Audit, Text, Tick, Group}
 use Rattle.printing.specs.Bytes.{bytes}
 
 -- the command of a line
-abbrev line_of : String → Command
+abbrev line_of : String → Option Command
 line_of s = command_of (bytes s)
 
 -- the input of the paper's example
 pub input :
     map line_of ("cfg 50 50 0" ∷ "rp 3" ∷ "sig em 0 400 burst 2 1" ∷ "run 401" ∷ [])
-    ≡ Configure 50 50 0 ∷ Period 3 ∷ Describe (Em 0 400) 0 (Start 2 1) ∷ Run 401 ∷ []
+    ≡ Some (Configure 50 50 0) ∷ Some (Period 3) ∷ Some (Describe (Em 0 400) 0 (Start 2 1)) ∷ Some (Run 401) ∷ []
 unfolding words_of
 input = refl
 
 -- the largest number is one, and blanks and leading zeros do no harm
 pub sound : map line_of ("rp 4294967295" ∷ "  rp   007 " ∷ "run 1000000" ∷ [])
-    ≡ Period 4_294_967_295 ∷ Period 7 ∷ Run 1_000_000 ∷ []
+    ≡ Some (Period 4_294_967_295) ∷ Some (Period 7) ∷ Some (Run 1_000_000) ∷ []
 unfolding words_of
 sound = refl
 
 -- lines past a top, with a tab, with a word too many or too few, or with none
 pub bad :
     map line_of ("rp 4294967296" ∷ "run 1000001" ∷ "sig ph 10 none" ∷ "rp\t3" ∷ "hook keep 1" ∷ "cfg 50 50" ∷ "" ∷ [])
-    ≡ Bad ∷ Bad ∷ Bad ∷ Bad ∷ Bad ∷ Bad ∷ Bad ∷ []
+    ≡ None ∷ None ∷ None ∷ None ∷ None ∷ None ∷ None ∷ []
 unfolding words_of
 bad = refl
 
 -- the command of a line of a card's script
-abbrev card_of : String → CardCommand
+abbrev card_of : String → Option CardCommand
 card_of s = card_command_of (bytes s)
 
 -- lines of a card's script
@@ -55,13 +55,13 @@ pub card-input :
     ∷ "at 7 audit"
     ∷ "tick 1000000"
     ∷ [])
-    ≡ Add 50 50 0
-    ∷ On 0 Take (Period 3)
-    ∷ On 64 Take NoPeriod
-    ∷ On 1 Take (Describe Phased 2 Keep)
-    ∷ On 2 Take (OnHook Stop)
-    ∷ Audit 7
-    ∷ Tick 1_000_000
+    ≡ Some (Add 50 50 0)
+    ∷ Some (On 0 Take (Period 3))
+    ∷ Some (On 64 Take NoPeriod)
+    ∷ Some (On 1 Take (Describe Phased 2 Keep))
+    ∷ Some (On 2 Take (OnHook Stop))
+    ∷ Some (Audit 7)
+    ∷ Some (Tick 1_000_000)
     ∷ []
 unfolding words_of
 card-input = refl
@@ -69,7 +69,7 @@ card-input = refl
 -- a text stands from SG on, whatever follows
 pub card-text :
     map card_of ("at 7 SG 1" ∷ "  at   7   SGx \t " ∷ "at 7 SG" ∷ [])
-    ≡ Text 7 Take 5 ∷ Text 7 Take 11 ∷ Text 7 Take 5 ∷ []
+    ≡ Some (Text 7 Take 5) ∷ Some (Text 7 Take 11) ∷ Some (Text 7 Take 5) ∷ []
 unfolding words_of
 card-text = refl
 
@@ -81,10 +81,10 @@ card-text-bytes = refl
 pub card-asked :
     map card_of
     ("at 7 ask sig ph 2 keep" ∷ "at 7 ask SG 1" ∷ "at 7 commit 12 sig em 0 400 keep" ∷ " at 7  commit 012  SG{} " ∷ [])
-    ≡ On 7 Ask (Describe Phased 2 Keep)
-    ∷ Text 7 Ask 9
-    ∷ On 7 (Commit 12) (Describe (Em 0 400) 0 Keep)
-    ∷ Text 7 (Commit 12) 19
+    ≡ Some (On 7 Ask (Describe Phased 2 Keep))
+    ∷ Some (Text 7 Ask 9)
+    ∷ Some (On 7 (Commit 12) (Describe (Em 0 400) 0 Keep))
+    ∷ Some (Text 7 (Commit 12) 19)
     ∷ []
 unfolding words_of
 card-asked = refl
@@ -101,14 +101,14 @@ pub card-not-asked :
     ∷ "at 7 commit 4294967296 SG"
     ∷ "at 7 ask sig none none 1"
     ∷ [])
-    ≡ BadCard ∷ BadCard ∷ BadCard ∷ BadCard ∷ BadCard ∷ BadCard ∷ BadCard ∷ BadCard ∷ []
+    ≡ None ∷ None ∷ None ∷ None ∷ None ∷ None ∷ None ∷ None ∷ []
 unfolding words_of
 card-not-asked = refl
 
 -- what is not for one line of a row, and what is not for the row
 pub card_misplaced :
     map card_of ("at 0 run 5" ∷ "at 0 cfg 50 50 0" ∷ "at 0 tick 5" ∷ "rp 3" ∷ "run 5" ∷ "audit" ∷ "SG" ∷ [])
-    ≡ BadCard ∷ BadCard ∷ BadCard ∷ BadCard ∷ BadCard ∷ BadCard ∷ BadCard ∷ []
+    ≡ None ∷ None ∷ None ∷ None ∷ None ∷ None ∷ None ∷ []
 unfolding words_of
 card_misplaced = refl
 
@@ -116,13 +116,13 @@ card_misplaced = refl
 pub card-bad :
     map card_of
     ("at x SG" ∷ "at 7SG" ∷ "at SG" ∷ "at 7 S G" ∷ "at 7 audit 1" ∷ "at 7 rp" ∷ "at 7" ∷ "tick 1000001" ∷ [])
-    ≡ BadCard ∷ BadCard ∷ BadCard ∷ BadCard ∷ BadCard ∷ BadCard ∷ BadCard ∷ BadCard ∷ []
+    ≡ None ∷ None ∷ None ∷ None ∷ None ∷ None ∷ None ∷ None ∷ []
 unfolding words_of
 card-bad = refl
 
 -- lines of a group: some places, none, and one that is named twice
 pub card-group :
-    map card_of ("group 250 3 1 64" ∷ "group 250" ∷ " group 0  7 7 " ∷ []) ≡ Group 250 ∷ Group 250 ∷ Group 0 ∷ []
+    map card_of ("group 250 3 1 64" ∷ "group 250" ∷ " group 0  7 7 " ∷ []) ≡ Some (Group 250) ∷ Some (Group 250) ∷ Some (Group 0) ∷ []
 unfolding words_of
 card-group = refl
 
@@ -134,12 +134,12 @@ unfolding words_of
 card-places = refl
 
 -- 64 places are taken, and 65 are not
-pub card-most : map (λ n. whole BadCard (group (replicate n (bytes "7")))) (65 ∷ 66 ∷ []) ≡ Group 7 ∷ BadCard ∷ []
+pub card-most : map (λ n. whole (group (replicate n (bytes "7")))) (65 ∷ 66 ∷ []) ≡ Some (Group 7) ∷ None ∷ []
 card-most = refl
 
 -- no interval, and a word that is no number
 pub card-no-group :
     map card_of ("group" ∷ "group x 1" ∷ "group 5 x" ∷ "group 5 1 x 2" ∷ [])
-    ≡ BadCard ∷ BadCard ∷ BadCard ∷ BadCard ∷ []
+    ≡ None ∷ None ∷ None ∷ None ∷ []
 unfolding words_of
 card-no-group = refl

@@ -1,7 +1,6 @@
 -- A number: one or more decimal digits of a value up to 4,294,967,295.
-use Rattle.std.specs.Prelude.{ℕ, ◌+◌, ◌-◌, ◌*◌, Bool, true, cond, ◌&&◌, List, [], ◌∷◌, leb}
-use Rattle.script.specs.declared.numbers.Number.{Number}
-use Rattle.script.specs.declared.numbers.Number.TheVariants.{Value, None}
+use Rattle.std.specs.Prelude.{ℕ, ◌+◌, ◌-◌, ◌*◌, Bool, true, ◌&&◌, List, [], ◌∷◌, nat_le, if◌then◌else◌}
+use Rattle.std.specs.Prelude.{Option, Some, None}
 
 -- the largest number
 abbrev pub top : ℕ
@@ -9,7 +8,7 @@ top = 4_294_967_295
 
 -- whether a byte is one of `0` to `9`
 abbrev pub is_digit : ℕ → Bool
-is_digit b = leb 48 b && leb b 57
+is_digit b = nat_le 48 b && nat_le b 57
 
 -- whether every byte is a digit
 abbrev pub all_digits : List ℕ → Bool
@@ -26,7 +25,7 @@ abbrev pub value_of : List ℕ → ℕ
 value_of l = value_after 0 l
 
 -- the number that a word is, if it is one
-abbrev pub number_of : List ℕ → Number
+abbrev pub number_of : List ℕ → Option ℕ
 number_of [] = None
 number_of (b ∷ l) =
-    cond (all_digits (b ∷ l) && leb (value_of (b ∷ l)) top) (Value (value_of (b ∷ l))) None
+    if all_digits (b ∷ l) && nat_le (value_of (b ∷ l)) top then Some (value_of (b ∷ l)) else None

@@ -1,16 +1,13 @@
 -- What a reader makes of a line's words: it reads the first of them and leaves the rest, or it fails.
-use Rattle.std.specs.Prelude.{ℕ, Bool, true, false, cond, List, [], ◌∷◌}
+use Rattle.std.specs.Prelude.{ℕ, Bool, true, false, List, [], ◌∷◌, Option, Some, None, if◌then◌else◌}
 use Prim.Native.String.{String}
 use Rattle.script.specs.Words.{same}
 use Rattle.script.specs.Numbers.{number_of}
-use Rattle.script.specs.declared.numbers.Number.{Number}
-use Rattle.script.specs.declared.numbers.Number.TheVariants.{Value, None}
 use Rattle.printing.specs.Bytes.{bytes}
 
 -- what was read and the words that are left, or nothing
-pub data Parsed (A : Type 0) : Type 0 where
-  failed : Parsed A
-  parsed : (value : A) (rest : List (List ℕ)) → Parsed A
+abbrev pub Parsed : Type 0 → Type 0
+Parsed A = Option (A × List (List ℕ))
 
 -- a reader of an A
 abbrev pub Reader : Type 0 → Type 0
@@ -18,8 +15,8 @@ Reader A = List (List ℕ) → Parsed A
 
 -- what is read goes on to f, with the words that are left
 abbrev pub after : {A B : Type 0} → Parsed A → (A → Reader B) → Parsed B
-after failed f = failed
-after (parsed a ws) f = f a ws
+after None f = None
+after (Some (a, ws)) f = f a ws
 
 -- one reader, and then another that knows what the first read
 abbrev pub ◌>>=◌ : {A B : Type 0} → Reader A → (A → Reader B) → Reader B
@@ -27,16 +24,16 @@ abbrev pub ◌>>=◌ : {A B : Type 0} → Reader A → (A → Reader B) → Read
 
 -- reads nothing and gives a
 abbrev pub give : {A : Type 0} → A → Reader A
-give a ws = parsed a ws
+give a ws = Some (a, ws)
 
 -- reads nothing and fails
 abbrev pub fail : {A : Type 0} → Reader A
-fail ws = failed
+fail ws = None
 
 -- what was read, or what was read instead where nothing was
 abbrev pub or_else : {A : Type 0} → Parsed A → Parsed A → Parsed A
-or_else failed q = q
-or_else (parsed a ws) q = parsed a ws
+or_else None q = q
+or_else (Some r) q = Some r
 
 infixr 20 ◌<|>◌
 -- one reader, or another where it fails
@@ -55,11 +52,11 @@ rest (w ∷ ws) = ws
 
 -- reads a word, empty where none is left
 abbrev pub word : Reader (List ℕ)
-word ws = parsed (first ws) (rest ws)
+word ws = Some (first ws, rest ws)
 
--- gives a number's value
-abbrev pub valued : Number → Reader ℕ
-valued (Value n) = give n
+-- gives a value where there is one
+abbrev pub valued : {A : Type 0} → Option A → Reader A
+valued (Some a) = give a
 valued None = fail
 
 -- reads a number
@@ -78,7 +75,7 @@ pair = do
 -- the reader that stands beside the word w in a table, which fails where w is not in it
 abbrev pub lookup : {A : Type 0} → List ℕ → List (String × Reader A) → Reader A
 lookup w [] = fail
-lookup w (e ∷ es) = cond (same w (bytes e.0)) e.1 (lookup w es)
+lookup w (e ∷ es) = if same w (bytes e.0) then e.1 else lookup w es
 
 -- reads a word and goes on with the reader that stands beside it
 abbrev pub choice : {A : Type 0} → List (String × Reader A) → Reader A
@@ -91,7 +88,7 @@ abbrev pub no_word : List (List ℕ) → Bool
 no_word [] = true
 no_word (w ∷ ws) = false
 
--- what was read where no word is left, and bad otherwise
-abbrev pub whole : {A : Type 0} → A → Parsed A → A
-whole bad failed = bad
-whole bad (parsed a ws) = cond (no_word ws) a bad
+-- what was read, where no word is left
+abbrev pub whole : {A : Type 0} → Parsed A → Option A
+whole None = None
+whole (Some (a, ws)) = if no_word ws then Some a else None

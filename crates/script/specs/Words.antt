@@ -1,5 +1,6 @@
 -- The words of a line: what stands between its blanks.
-use Rattle.std.specs.Prelude.{ℕ, Bool, true, false, cond, List, [], ◌∷◌, eqb}
+use Rattle.std.specs.Prelude.{ℕ, Bool, List, [], ◌∷◌, ◌==◌, if◌then◌else◌}
+use Rattle.std.specs.Str.{bytes_eq}
 
 -- the byte that separates words
 abbrev pub blank : ℕ
@@ -13,7 +14,7 @@ on_first b (p ∷ ps) = (b ∷ p) ∷ ps
 -- a line cut at each blank
 abbrev pub pieces : List ℕ → List (List ℕ)
 pieces [] = [] ∷ []
-pieces (b ∷ l) = cond (eqb b blank) ([] ∷ pieces l) (on_first b (pieces l))
+pieces (b ∷ l) = if b == blank then [] ∷ pieces l else on_first b (pieces l)
 
 -- the pieces that have a byte
 abbrev pub filled : List (List ℕ) → List (List ℕ)
@@ -27,7 +28,4 @@ words_of l = filled (pieces l)
 
 -- whether two words have the same bytes
 abbrev pub same : List ℕ → List ℕ → Bool
-same [] [] = true
-same [] (b ∷ v) = false
-same (a ∷ w) [] = false
-same (a ∷ w) (b ∷ v) = cond (eqb a b) (same w v) false
+same = bytes_eq

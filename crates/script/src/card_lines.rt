@@ -1,64 +1,46 @@
 // The lines of a card's script.
-ghost use Rattle.std.specs.Prelude.{◌≡◌, drop};
+ghost use Rattle.std.specs.Prelude.{◌≡◌};
 ghost use Rattle.script.specs.Words.{words_of};
-ghost use Rattle.script.specs.Readers.{whole};
-ghost use Rattle.script.specs.Cards.{of_row, at_place, past_first, start_of, card_command_of};
-ghost use Rattle.script.specs.declared.CardCommand.TheVariants.{Bad};
+ghost use Rattle.script.specs.Readers.{after, valued};
+ghost use Rattle.script.specs.Told.{told};
+ghost use Rattle.script.specs.Cards.{of_row, past_words, start_of, card_command, card_command_of};
 
-use super::commands::{read_configure, read_run};
-use super::groups::read_group;
-use super::keywords::{AT, CFG, GROUP, TICK};
-use super::numbers::{Number, number_in};
-use super::placed::read_placed;
-use super::words::{is_word, next_word};
+use super::commands::{next_configure, next_run};
+use super::groups::next_group;
+use super::placed::next_at;
+use super::words::{next_word, whole};
 use super::{CardCommand, Command};
 
-// What a command of `meter` asks of the row: `cfg` adds a line to it, and `run` makes ticks of it.
-fn of_row(command: Command) -> CardCommand
-    ensures { result ≡ of_row command }
+// What a command of `meter` that was read asks of the row: `cfg` adds a line to it, and `run` makes ticks of it.
+fn of_row(read: Option<(Command, &[u8])>) -> Option<(CardCommand, &[u8])>
+    ensures { told result ≡ after (told read.entry) (λ c. valued (of_row c)) }
 {
-    if let Command::Configure { pulse, gap, clock } = command {
-        return CardCommand::Configure { pulse, gap, clock };
+    match read? {
+        (Command::Configure { pulse, gap, clock }, rest) => {
+            Some((CardCommand::Configure { pulse, gap, clock }, rest))
+        }
+        (Command::Run(ticks), rest) => Some((CardCommand::Tick(ticks), rest)),
+        _ => None,
     }
-    if let Command::Run(ticks) = command {
-        return CardCommand::Tick(ticks);
-    }
-    CardCommand::Bad
 }
 
-// Reads what follows `at`: the place, and what is for the line there.
-fn read_at(line: &[u8], at: usize) -> CardCommand
-    ensures { result ≡ whole Bad (at_place (start_of line.now (past_first (drop at line.now))) (words_of (drop at line.now))) }
+// Reads a command of a card.
+fn next_card_command(line: &[u8]) -> Option<(CardCommand, &[u8])>
+    ensures { told result ≡ card_command (start_of line.now (past_words 2 line.now)) (words_of line.now) }
 {
-    let word = next_word(line, at);
-    let start = word.start;
-    let end = word.end;
-    let found = number_in(&line[start..end]);
-    match found {
-        Number::Value(place) => read_placed(line, end, place),
-        Number::None => CardCommand::Bad,
+    let (word, rest) = next_word(line);
+    match word {
+        b"cfg" => of_row(next_configure(rest)),
+        b"tick" => of_row(next_run(rest)),
+        b"at" => next_at(line, rest),
+        b"group" => next_group(rest),
+        _ => None,
     }
 }
 
 // Reads a line of a card's script, without its line feed.
-pub fn read_card(line: &[u8]) -> CardCommand
+pub fn read_card(line: &[u8]) -> Option<CardCommand>
     ensures { result ≡ card_command_of line.now }
 {
-    let word = next_word(line, 0);
-    let start = word.start;
-    let end = word.end;
-    let name = &line[start..end];
-    if is_word(name, CFG) {
-        return of_row(read_configure(line, end));
-    }
-    if is_word(name, TICK) {
-        return of_row(read_run(line, end));
-    }
-    if is_word(name, AT) {
-        return read_at(line, end);
-    }
-    if is_word(name, GROUP) {
-        return read_group(line, end);
-    }
-    CardCommand::Bad
+    whole(next_card_command(line))
 }

@@ -2,12 +2,10 @@
 #![tactic(auto)]
 
 use descriptor::{BurstPart, Hook, TariffPart};
-use tariff::Phase;
 
 mod card_lines;
 mod commands;
 mod groups;
-mod keywords;
 mod numbers;
 mod parts;
 mod phases;
@@ -23,7 +21,6 @@ pub use phases::read_phase;
 // phased.
 #[derive(Clone, Copy)]
 pub enum Command {
-    Bad,
     Configure {
         pulse: u32,
         gap: u32,
@@ -41,14 +38,15 @@ pub enum Command {
 }
 
 // The places of a group: the first `count` of the list, whose others are 0.
-#[derive(Clone, Copy)]
+// Stays: fixed memory; a `Vec` could fail for want of memory, which `read_places` cannot.
+#[derive(Clone, Copy, PartialEq, Eq, Debug)]
 pub struct Places {
     pub count: usize,
     pub list: [u32; 64],
 }
 
 // How a descriptor is given to a line: to be taken, to be asked only, or to be committed with the ticket of an ask.
-#[derive(Clone, Copy)]
+#[derive(Clone, Copy, PartialEq, Eq, Debug)]
 pub enum Giving {
     Take,
     Ask,
@@ -59,7 +57,6 @@ pub enum Giving {
 // the end of the line. `read_places` reads the places of a group.
 #[derive(Clone, Copy)]
 pub enum CardCommand {
-    Bad,
     Configure {
         pulse: u32,
         gap: u32,
@@ -80,11 +77,4 @@ pub enum CardCommand {
     Group {
         interval: u32,
     },
-}
-
-// What a phase line says.
-#[derive(Clone, Copy)]
-pub enum PhaseLine {
-    Numbers(Phase),
-    Bad,
 }

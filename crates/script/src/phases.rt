@@ -2,33 +2,28 @@
 ghost use Rattle.std.specs.Prelude.{◌≡◌};
 ghost use Rattle.script.specs.Commands.{phase_line_of};
 
-use super::PhaseLine;
 use super::numbers::next_number;
 use super::words::ended;
 use tariff::Phase;
 
 // Reads the line of a phase: seven numbers, and nothing else.
-pub fn read_phase(line: &[u8]) -> PhaseLine
+pub fn read_phase(line: &[u8]) -> Option<Phase>
     ensures { result ≡ phase_line_of line.now }
 {
-    let pri = next_number(line, 0);
-    let pcx = next_number(line, pri.at);
-    let repx = next_number(line, pcx.at);
-    let pcn = next_number(line, repx.at);
-    let repn = next_number(line, pcn.at);
-    let ci = next_number(line, repn.at);
-    let pd = next_number(line, ci.at);
-    if ended(line, pd.at) {
-        PhaseLine::Numbers(Phase {
-            pri: pri.value,
-            pcx: pcx.value,
-            repx: repx.value,
-            pcn: pcn.value,
-            repn: repn.value,
-            ci: ci.value,
-            pd: pd.value,
-        })
-    } else {
-        PhaseLine::Bad
-    }
+    let (pri, line) = next_number(line)?;
+    let (pcx, line) = next_number(line)?;
+    let (repx, line) = next_number(line)?;
+    let (pcn, line) = next_number(line)?;
+    let (repn, line) = next_number(line)?;
+    let (ci, line) = next_number(line)?;
+    let (pd, line) = next_number(line)?;
+    ended(line).then_some(Phase {
+        pri,
+        pcx,
+        repx,
+        pcn,
+        repn,
+        ci,
+        pd,
+    })
 }

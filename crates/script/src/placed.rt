@@ -1,101 +1,93 @@
 // What is for the line at a place: a command of `meter`, `audit`, or a descriptor, which may be asked or committed.
-ghost use Rattle.std.specs.Prelude.{◌≡◌, drop};
+ghost use Rattle.std.specs.Prelude.{◌≡◌};
 ghost use Rattle.script.specs.Words.{words_of};
-ghost use Rattle.script.specs.Readers.{whole};
-ghost use Rattle.script.specs.Cards.{of_place, is_text, given, commit, placed, beginning, past_first, start_of};
-ghost use Rattle.script.specs.declared.CardCommand.TheVariants.{Bad};
+ghost use Rattle.script.specs.Readers.{after, valued};
+ghost use Rattle.script.specs.Runs.{past_first};
+ghost use Rattle.script.specs.Told.{told};
+ghost use Rattle.script.specs.Cards.{of_place, given, commit, other, placed, at_place, beginning, start_of};
 
-use super::commands::{read_describe, read_hook, read_period};
-use super::keywords::{ASK, AUDIT, COMMIT, HOOK, RP, SG, SIG};
-use super::numbers::{Number, number_in};
-use super::words::{ended, is_word, next_word};
+use super::commands::{next_describe, next_hook, next_period};
+use super::numbers::next_number;
+use super::words::{next_word, past_blanks};
 use super::{CardCommand, Command, Giving};
 
-// A command of `meter` on the line at a place. A bad one stays bad.
-fn of_place(place: u32, giving: Giving, command: Command) -> CardCommand
-    ensures { result ≡ of_place place giving command }
+// A command of `meter` that was read, on the line at a place.
+fn of_place(
+    place: u32,
+    giving: Giving,
+    read: Option<(Command, &[u8])>,
+) -> Option<(CardCommand, &[u8])>
+    ensures { told result ≡ after (told read.entry) (λ c. valued (of_place place giving c)) }
 {
-    if let Command::Bad = command {
-        CardCommand::Bad
-    } else {
-        CardCommand::On {
-            place,
-            giving,
-            command,
-        }
-    }
+    let (command, rest) = read?;
+    let on = CardCommand::On {
+        place,
+        giving,
+        command,
+    };
+    Some((on, rest))
 }
 
-// Whether a word begins with `SG`.
-fn is_text(word: &[u8]) -> bool
-    ensures { result ≡ is_text word.now }
+// Reads a descriptor, which stands in the rest of a line: a text, or `sig`.
+#[tactic(auto, unfolding(crate::specs::Words::words_of))]
+fn next_given<'a>(
+    line: &[u8],
+    rest: &'a [u8],
+    place: u32,
+    giving: Giving,
+) -> Option<(CardCommand, &'a [u8])>
+    ensures { told result ≡ given giving (beginning line.now rest.now) place (words_of rest.now) }
 {
-    if word.len() < 2 {
-        return false;
-    }
-    is_word(&word[0..2], SG)
-}
-
-// Reads a descriptor: a text, or `sig`.
-fn read_given(line: &[u8], at: usize, place: u32, giving: Giving) -> CardCommand
-    ensures { result ≡ whole Bad (given giving (beginning line.now (drop at line.now)) place (words_of (drop at line.now))) }
-{
-    let word = next_word(line, at);
-    let start = word.start;
-    let end = word.end;
-    let name = &line[start..end];
-    if is_text(name) {
-        return CardCommand::Text {
+    let (word, past) = next_word(rest);
+    if word.starts_with(b"SG") {
+        let from = line.len().saturating_sub(past_blanks(rest).len());
+        let text = CardCommand::Text {
             place,
             giving,
-            from: start,
+            from,
         };
+        return Some((text, &[]));
     }
-    if is_word(name, SIG) {
-        return of_place(place, giving, read_describe(line, end));
+    match word {
+        b"sig" => of_place(place, giving, next_describe(past)),
+        _ => None,
     }
-    CardCommand::Bad
 }
 
 // Reads what follows `commit`: the ticket, and a descriptor.
-fn read_commit(line: &[u8], at: usize, place: u32) -> CardCommand
-    ensures { result ≡ whole Bad (commit (beginning line.now (past_first (drop at line.now))) place (words_of (drop at line.now))) }
+fn next_commit<'a>(line: &[u8], rest: &'a [u8], place: u32) -> Option<(CardCommand, &'a [u8])>
+    ensures { told result ≡ commit (beginning line.now (past_first rest.now)) place (words_of rest.now) }
 {
-    let word = next_word(line, at);
-    let start = word.start;
-    let end = word.end;
-    let found = number_in(&line[start..end]);
-    match found {
-        Number::Value(ticket) => read_given(line, end, place, Giving::Commit(ticket)),
-        Number::None => CardCommand::Bad,
+    let (ticket, rest) = next_number(rest)?;
+    next_given(line, rest, place, Giving::Commit(ticket))
+}
+
+// Reads what follows the place, where that is no descriptor to be taken.
+fn next_other<'a>(line: &[u8], rest: &'a [u8], place: u32) -> Option<(CardCommand, &'a [u8])>
+    ensures { told result ≡ other (start_of line.now rest.now) place (words_of rest.now) }
+{
+    let (word, rest) = next_word(rest);
+    match word {
+        b"audit" => Some((CardCommand::Audit(place), rest)),
+        b"rp" => of_place(place, Giving::Take, next_period(rest)),
+        b"hook" => of_place(place, Giving::Take, next_hook(rest)),
+        b"ask" => next_given(line, rest, place, Giving::Ask),
+        b"commit" => next_commit(line, rest, place),
+        _ => None,
     }
 }
 
 // Reads what follows the place.
-pub(crate) fn read_placed(line: &[u8], at: usize, place: u32) -> CardCommand
-    ensures { result ≡ whole Bad (placed (start_of line.now (drop at line.now)) place (words_of (drop at line.now))) }
+fn next_placed<'a>(line: &[u8], rest: &'a [u8], place: u32) -> Option<(CardCommand, &'a [u8])>
+    ensures { told result ≡ placed (start_of line.now rest.now) place (words_of rest.now) }
 {
-    let word = next_word(line, at);
-    let start = word.start;
-    let end = word.end;
-    let name = &line[start..end];
-    if is_word(name, AUDIT) {
-        if ended(line, end) {
-            return CardCommand::Audit(place);
-        }
-        return CardCommand::Bad;
-    }
-    if is_word(name, RP) {
-        return of_place(place, Giving::Take, read_period(line, end));
-    }
-    if is_word(name, HOOK) {
-        return of_place(place, Giving::Take, read_hook(line, end));
-    }
-    if is_word(name, ASK) {
-        return read_given(line, end, place, Giving::Ask);
-    }
-    if is_word(name, COMMIT) {
-        return read_commit(line, end, place);
-    }
-    read_given(line, at, place, Giving::Take)
+    next_given(line, rest, place, Giving::Take).or_else(|| next_other(line, rest, place))
+}
+
+// Reads what follows `at`: the place, and what is for the line there.
+pub(crate) fn next_at<'a>(line: &[u8], rest: &'a [u8]) -> Option<(CardCommand, &'a [u8])>
+    ensures { told result ≡ at_place (start_of line.now (past_first rest.now)) (words_of rest.now) }
+{
+    let (place, rest) = next_number(rest)?;
+    next_placed(line, rest, place)
 }

@@ -1,89 +1,54 @@
 // The words of a line, one after the other.
-ghost use Rattle.std.specs.Prelude.{◌≡◌, ◌≤◌, length, drop};
-ghost use Rattle.script.specs.Words.{same};
-ghost use Rattle.script.specs.Runs.{ends_run, past_run};
-ghost use Rattle.script.specs.Told.{NextWord, LastWord, ended as Told·ended};
-ghost use Rattle.printing.specs.Bytes.{unpacked};
+ghost use Rattle.std.specs.Prelude.{◌≡◌, ◌==◌, not, length, position};
+ghost use Rattle.script.specs.Words.{blank, words_of};
+ghost use Rattle.script.specs.Runs.{past_blanks, past_first};
+ghost use Rattle.script.specs.Readers.{first, rest, no_word, whole};
+ghost use Rattle.script.specs.Told.{told};
 
-// A word: the place of its first byte, and the place after its last. They are the same where no word is left.
-#[derive(Clone, Copy)]
-pub(crate) struct Word {
-    pub start: usize,
-    pub end: usize,
+// The place of the first byte that is no blank.
+fn first_other(line: &[u8]) -> Option<usize>
+    ensures { result ≡ position (λ b. not (b == blank)) line.now }
+{
+    line.iter().position(|b| *b != b' ')
 }
 
-// The place that is answered where a line is not what a reader takes. It lies past the end of every line.
-pub(crate) const PAST_END: usize = usize::MAX;
-
-// Whether a byte ends a run of blanks, or else one of other bytes.
-fn ends_run(blanks: bool, b: u8) -> bool
-    ensures { result ≡ ends_run blanks b }
+// The place of the first blank.
+fn first_blank(line: &[u8]) -> Option<usize>
+    ensures { result ≡ position (λ b. b == blank) line.now }
 {
-    if blanks { b != 32 } else { b == 32 }
+    line.iter().position(|b| *b == b' ')
 }
 
-// The place past the run of blanks that stands at `at`, or else of other bytes.
-fn past_run(line: &[u8], at: usize, blanks: bool) -> usize
-    ensures upper_bound { result ≤ length line.now }
-    ensures line_value { drop result line.now ≡ past_run blanks (drop at line.now) }
+// What stands past the blanks that a line begins with.
+pub(crate) fn past_blanks(line: &[u8]) -> &[u8]
+    ensures { result.now ≡ past_blanks line.now }
 {
-    let mut i = at;
-    while i < line.len() {
-        if ends_run(blanks, line[i]) {
-            return i;
-        }
-        i += 1;
-    }
-    line.len()
+    &line[first_other(line).unwrap_or(line.len())..]
 }
 
-// The first word from `at` on.
-pub(crate) fn next_word(line: &[u8], at: usize) -> Word
-    ensures { NextWord line.now at result }
+// The first word of a line, empty where there is none, and what stands past it.
+pub(crate) fn next_word(line: &[u8]) -> (&[u8], &[u8])
+    ensures first { result.0.now ≡ first (words_of line.now) }
+    ensures others { words_of result.1.now ≡ rest (words_of line.now) }
+    ensures past { result.1.now ≡ past_first line.now }
 {
-    let start = past_run(line, at, true);
-    let end = past_run(line, start, false);
-    Word { start, end }
+    let line = past_blanks(line);
+    line.split_at(first_blank(line).unwrap_or(line.len()))
 }
 
-// Whether a line is read up to `at`, and no word is left.
-pub(crate) fn ended(line: &[u8], at: usize) -> bool
-    ensures { result ≡ Told·ended line.now at }
+// Whether no word is left.
+pub(crate) fn ended(line: &[u8]) -> bool
+    ensures { result ≡ no_word (words_of line.now) }
 {
-    if at > line.len() {
-        return false;
-    }
-    past_run(line, at, true) == line.len()
+    past_blanks(line).is_empty()
 }
 
-// The first word from `at` on if no other follows it, or else an empty one.
-pub(crate) fn last_word(line: &[u8], at: usize) -> Word
-    ensures { LastWord line.now at result }
+// What was read, where no word is left.
+pub(crate) fn whole<A>(read: Option<(A, &[u8])>) -> Option<A>
+where
+    A: Drop,
+    ensures { result ≡ whole (told read.entry) }
 {
-    let word = next_word(line, at);
-    let end = word.end;
-    if ended(line, end) {
-        word
-    } else {
-        Word { start: end, end }
-    }
-}
-
-// Whether a word is the one that is packed in a number.
-pub(crate) fn is_word(word: &[u8], packed: u64) -> bool
-    ensures { result ≡ same word.now (unpacked packed) }
-{
-    let mut i = 0;
-    let mut rest = packed;
-    while i < word.len() {
-        if rest == 0 {
-            return false;
-        }
-        if word[i] != (rest % 256) as u8 {
-            return false;
-        }
-        rest /= 256;
-        i += 1;
-    }
-    rest == 0
+    let (value, rest) = read?;
+    ended(rest).then_some(value)
 }

@@ -1,34 +1,36 @@
-use Rattle.std.proofs.Common.{arith, ◌∙◌, sym}
+use Rattle.std.proofs.Common.{arith, sym, ◌≡◌, ◌∙◌, ◌+◌, ◌-◌, ◌*◌, get_or}
 use lib.ListN.{drop_of_length-le}
-use Rattle.script.proofs.NumberLaws.{past_top, no_more, from_zero, digit-on, below-digits, above-digits}
+use Rattle.script.proofs.NumberLaws.{from_zero, no_digit, over_top, taken, no_more}
 use Rattle.script.proofs.numbers.number_in.Goals as goal
 
-pub loop-i-init : goal.loop-i-init
-loop-i-init c = (omega arith, omega arith, from_zero c.args.word.now c.if-word-eq0.false)
+pub loop-b-init : goal.loop-b-init
+loop-b-init c = (omega arith, from_zero c.args.word.now (cc))
 
-pub returns-then-b-lt48 : goal.returns-then-b-lt48
-returns-then-b-lt48 c =
-    let l = c.loop-i in
-    sym (below-digits l.value c.args.word.now l.i c.loop-i-test.true c.if-b-lt48.true) ∙ l.invariant.2
+pub returns-then-not-is_ascii_digit : goal.returns-then-not-is_ascii_digit
+returns-then-not-is_ascii_digit c =
+    let l = c.loop-b in sym (no_digit l.value c.args.word.now l.b-index (omega arith) (cc)) ∙ l.invariant.1
 
-pub returns-then-b-gt57 : goal.returns-then-b-gt57
-returns-then-b-gt57 c =
-    let l = c.loop-i in
-    sym (above-digits l.value c.args.word.now l.i c.loop-i-test.true c.if-b-gt57.true) ∙ l.invariant.2
+pub returns-in_err-checked_mul : goal.returns-in_err-checked_mul
+returns-in_err-checked_mul c =
+    let l = c.loop-b in
+    let over = over_top l.value c.args.word.now l.b-index (omega arith) (cc) (omega (arith, c.in_err-checked_mul.ensures)) in
+    c.from_residual.ensures ∙ sym over ∙ l.invariant.1
 
-pub returns-then-value-gt4294967295 : goal.returns-then-value-gt4294967295
-returns-then-value-gt4294967295 c =
-    let l = c.loop-i in
-    let on = digit-on l.value c.args.word.now l.i c.loop-i-test.true c.if-b-lt48.false c.if-b-gt57.false in
-    sym (on ∙ past_top _ _ c.if-value-gt4294967295.true) ∙ l.invariant.2
+pub returns-in_err-value : goal.returns-in_err-value
+returns-in_err-value c =
+    let l = c.loop-b in
+    let over = over_top l.value c.args.word.now l.b-index (omega arith) (cc) (omega (arith, c.in_err-value.ensures)) in
+    c.from_residual-in_err-value.ensures ∙ sym over ∙ l.invariant.1
 
-pub loop-i-preserved : goal.loop-i-preserved
-loop-i-preserved c =
-    let l = c.loop-i in
-    let on = digit-on l.value c.args.word.now l.i c.loop-i-test.true c.if-b-lt48.false c.if-b-gt57.false in
-    (omega arith, c.if-value-gt4294967295.false, sym on ∙ l.invariant.2)
+pub loop-b-preserved : goal.loop-b-preserved
+loop-b-preserved c =
+    let l = c.loop-b in
+    let same : c.in_ok-value.value ≡ 10 * l.value + (get_or c.args.word.now l.b-index 0 - 48) =
+    omega (arith, c.in_ok-checked_mul.ensures, c.in_ok-value.ensures, c.from.ensures)
+    in
+    (omega (arith, c.in_ok-value.ensures), taken l.value c.args.word.now l.b-index (omega arith) (cc) same ∙ l.invariant.1)
 
 pub returns : goal.returns
 returns c =
-    let l = c.loop-i in
-    sym (no_more l.value l.invariant.1) ∙ (rw (drop_of_length-le c.args.word.now c.loop-i-test.false) at l.invariant.2)
+    let l = c.loop-b in
+    sym (no_more l.value (omega arith)) ∙ (rw (drop_of_length-le c.args.word.now c.loop-b-test.false) at l.invariant.1)
