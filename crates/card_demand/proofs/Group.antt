@@ -15,9 +15,10 @@ use Rattle.descriptor.specs.declared.Refusal.TheVariants.{Row, Place}
 use Rattle.line.specs.Lines.{Verdict, blank_line}
 use Rattle.line.specs.declared.Line.{Line}
 use Rattle.std.specs.Prelude.{Ok, Err}
+use Rattle.std.specs.Result.{result_and}
 use Rattle.dispatcher.specs.Dispatch.{bad_row}
-use Rattle.group.specs.Groups.{rate_of, named, outside, or_else, first_refusal, verdict_of}
-use Rattle.group.proofs.RateLaws.{rate-cancels, else_accepted}
+use Rattle.group.specs.Groups.{rate_of, named, outside, first_refusal, verdict_of}
+use Rattle.group.proofs.RateLaws.{rate-cancels}
 use Rattle.demand.specs.Calls.{Answer, accepted, Entry}
 use Rattle.demand.specs.Machine.{verdict_told, step, entry_for, Past, past, after_calls, entries, history}
 use Rattle.demand.proofs.Demand.{demand3}
@@ -46,7 +47,7 @@ inside (p ∷ ps) n e i t =
     named_in (λ j. j < n) i p ps (leb-false n p both.0) (inside ps n both.1 i) t
 
 -- ---- the first refusal
-refused_or : (v w : Verdict) (r : CardReply) → group_reply w ≡ r → group_reply (or_else v w) ≡ refusal_else (verdict_told v) r
+refused_or : (v w : Verdict) (r : CardReply) → group_reply w ≡ r → group_reply (result_and v w) ≡ refusal_else (verdict_told v) r
 refused_or (Ok k) w r e = e
 refused_or (Err x) w r e = refl
 
@@ -63,8 +64,9 @@ first-same n f g same (p ∷ ps) e =
 abbrev pub Accepts : Verdict → Type 0
 Accepts v = (k : ℕ) × (v ≡ Ok k)
 
-accepted-both : (v w : Verdict) → Accepts (or_else v w) → Accepts v × Accepts w
-accepted-both v w a = let both = else_accepted v w a.0 a.1 in (both.0, (a.0, both.1))
+accepted-both : (v w : Verdict) → Accepts (result_and v w) → Accepts v × Accepts w
+accepted-both (Ok k) w a = ((k, refl), a)
+accepted-both (Err r) w a = absurd (let q = a.1 in let o : ◌≡◌ {A = ℕ} 0 1 = cc in omega arith)
 
 all_accept : (f : ℕ → Verdict) (ps : List ℕ) → Accepts (first_refusal f ps) → (i : ℕ) → named ps i ≡ true → Accepts (f i)
 unfolding first_refusal named

@@ -10,9 +10,9 @@ use lib.Dec.{eqb}
 use lib.ListN.{length}
 use Rattle.answers.specs.Fronts.{silent}
 use Rattle.answers.specs.declared.Tick.{Tick}
-use Rattle.dispatcher.specs.Dispatch.{tells}
+use Rattle.dispatcher.specs.Dispatch.{tells, notice}
 use Rattle.dispatcher.specs.declared.Waiting.{Waiting}
-use Rattle.dispatcher.specs.declared.Sent.TheVariants.{Quiet, Notice}
+use Rattle.std.specs.Prelude.{Some, None}
 use Rattle.demand.specs.Calls.{Entry}
 use Rattle.card_demand.specs.Card.{CardCall, CardReply, done, sends, refuses, CardEntry, card_entry, Card, Making}
 use Rattle.card_demand.specs.Reading.{is_tick, one_if, number, row_ticks, row_in, next_in, tariff_done, burst_done, reported, fell, fallen, since, left, due}
@@ -24,7 +24,7 @@ use Rattle.card_demand.proofs.Run.{Run, more, good}
 
 -- where the line at place i has something to tell, an entry has its notice, or passes it over
 data At (i : ℕ) (e : CardEntry) (h : List CardEntry) : Type 0 where
-  hears : (w : Waiting) → e.reply ≡ sends (Notice i w) → At i e h
+  hears : (w : Waiting) → e.reply ≡ sends (Some (notice i w)) → At i e h
   passes : tells (left (e ∷ h) i) ≡ true → unheard (e ∷ h) i ≡ one_if (is_tick e) (unheard h i) → At i e h
 
 at-reply : (i : ℕ) (c : CardCall) (r : CardReply) (rows : List (List Entry)) (h : List CardEntry) → tells (due (card_entry c r rows) h i) ≡ true →
@@ -32,11 +32,11 @@ at-reply : (i : ℕ) (c : CardCall) (r : CardReply) (rows : List (List Entry)) (
 unfolding since unheard
 at-reply i c done rows h t = passes t refl
 at-reply i c (refuses n) rows h t = passes t refl
-at-reply i c (sends Quiet) rows h t = passes t (rw t)
-at-reply i c (sends (Notice j w)) rows h t = by (eqb i j) refl
+at-reply i c (sends None) rows h t = passes t (rw t)
+at-reply i c (sends (Some n)) rows h t = by (eqb i n.place) refl
   where
-    by : (b : Bool) → eqb i j ≡ b → At i (card_entry c (sends (Notice j w)) rows) h
-    by true x = hears w (ap (λ (y : ℕ). sends (Notice y w)) (sym (eqb-true i j x)))
+    by : (b : Bool) → eqb i n.place ≡ b → At i (card_entry c (sends (Some n)) rows) h
+    by true x = hears n.told (ap (λ (y : ℕ). sends (Some (notice y n.told))) (sym (eqb-true i n.place x)))
     by false x = passes (rw x t) (rw (x, t))
 
 at_entry : (i : ℕ) (e : CardEntry) (h : List CardEntry) → tells (due e h i) ≡ true → At i e h

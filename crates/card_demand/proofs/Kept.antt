@@ -10,13 +10,11 @@ use lib.Dec.{ltb, eqb}
 use lib.ListN.{length, get_or, length-set, get_or-map}
 use Rattle.answers.specs.Fronts.{silent}
 use Rattle.answers.specs.declared.Tick.{Tick}
-use Rattle.dispatcher.specs.Dispatch.{nothing, tells, gather_all, waits_in, place_after, turn_of, fresh_dispatcher, wrong_row, sent_of, served_by, sent_by, after_tick}
+use Rattle.dispatcher.specs.Dispatch.{nothing, notice, tells, gather_all, waits_in, place_after, turn_of, fresh_dispatcher, wrong_row, sent_of, served_by, sent_by, after_tick}
 use Rattle.dispatcher.specs.declared.Waiting.{Waiting}
 use Rattle.dispatcher.specs.declared.Dispatcher.{Dispatcher}
-use Rattle.dispatcher.specs.declared.Turn.{Turn}
-use Rattle.dispatcher.specs.declared.Turn.TheVariants.{None, Of}
-use Rattle.dispatcher.specs.declared.Sent.{Sent}
-use Rattle.dispatcher.specs.declared.Sent.TheVariants.{Quiet, Notice}
+use Rattle.dispatcher.specs.declared.Notice.{Notice}
+use Rattle.std.specs.Prelude.{Option, Some, None}
 use Rattle.demand.specs.Calls.{Entry}
 use Rattle.card_demand.specs.Card.{CardCall, tick_row, done, sends, refuses, CardEntry, card_entry, told_in}
 use Rattle.card_demand.specs.Reading.{is_tick, one_if, number, lent, row_in, next_in, reported, fell, fallen, serves, since, sent_reports, left, due}
@@ -150,14 +148,14 @@ module _ (N : ℕ) where
     ws = gather_all d.waiting (map told_in rows)
 
     -- its entry, whatever it sends
-    abbrev e : Sent → CardEntry
+    abbrev e : Option Notice → CardEntry
     e s = card_entry (tick_row m) (sends s) rows
 
     -- what there is to tell in it, whatever it sends
     abbrev w : ℕ → Waiting
-    w = due (e Quiet) h
+    w = due (e None) h
 
-    row_is : (s : Sent) → row_in N (e s ∷ h) ≡ n
+    row_is : (s : Option Notice) → row_in N (e s ∷ h) ≡ n
     unfolding row_in
     row_is s = row_now (row_in N h) n ok.may
 
@@ -180,7 +178,7 @@ module _ (N : ℕ) where
     few-due : (i : ℕ) → (w i).reports ≤ unheard h i + 1
     few-due i = omega (arith, k.few i, one-most (told_in (get_or rows i [])).report (since reported h i))
 
-    none-outside : (s : Sent) (f : Tick → Bool) → f silent ≡ false → (i : ℕ) → row_in N (e s ∷ h) ≤ i → fallen f (e s ∷ h) i ≡ 0
+    none-outside : (s : Option Notice) (f : Tick → Bool) → f silent ≡ false → (i : ℕ) → row_in N (e s ∷ h) ≤ i → fallen f (e s ∷ h) i ≡ 0
     unfolding number
     none-outside s f q i l = rw (out i (omega (arith, row_is s)), q) (k.outside f q i (before (row_in N h) refl))
       where
@@ -189,27 +187,27 @@ module _ (N : ℕ) where
         before (suc r) x = omega (arith, ok.may (omega arith), row_is s)
 
     -- nothing sent
-    kept-quiet : ((i : ℕ) → i < n → tells (w i) ≡ false) → Kept (e Quiet ∷ h) (served_by n d.next ws None)
+    kept-quiet : ((i : ℕ) → i < n → tells (w i) ≡ false) → Kept (e None ∷ h) (served_by n d.next ws None)
     unfolding next_in since unheard number sent_reports
     kept-quiet no_one = record {
-      row = sym (row_is Quiet);
+      row = sym (row_is None);
       next = k.next;
       places = gather-length d.waiting (map told_in rows) ∙ k.places;
       waits = waits-due;
       few = λ i. few-step (w i) (tells (w i)) refl (unheard h i) (few-due i);
-      fits = omega (arith, row_is Quiet, ok.most);
+      fits = omega (arith, row_is None, ok.most);
       passed = λ n' i may l.
-          let q = may (omega (arith, row_is Quiet, ok.some-line)) in
-          let same : n ≡ n' = sym (row_is Quiet) ∙ q in
+          let q = may (omega (arith, row_is None, ok.some-line)) in
+          let same : n ≡ n' = sym (row_is None) ∙ q in
           rw (no_one i (omega arith)) (passed-zero n' (next_in N h) i (rw (← same) (k.passed n i ok.may (omega arith)).next) l);
-      outside = none-outside Quiet;
-      sum = λ i. one-sum (fell reported (e Quiet) i) (fallen reported h i) (sent_reports h i) (since reported h i) (k.sum i);
+      outside = none-outside None;
+      sum = λ i. one-sum (fell reported (e None) i) (fallen reported h i) (sent_reports h i) (since reported h i) (k.sum i);
     }
 
     -- a notice of place j
     module _ (j : ℕ) (first : Foremost (λ i. tells (w i)) n (next_in N h) j) where
       abbrev x : CardEntry
-      x = e (Notice j (w j))
+      x = e (Some (notice j (w j)))
 
       left_is : (i : ℕ) (b : Bool) → eqb i j ≡ b → left (x ∷ h) i ≡ cond b nothing (w i)
       unfolding since
@@ -245,12 +243,12 @@ module _ (N : ℕ) where
 
       next-is : next_in N (x ∷ h) ≡ place_after n j
       unfolding next_in
-      next-is = ap (λ (r : ℕ). place_after r j) (row_is (Notice j (w j)))
+      next-is = ap (λ (r : ℕ). place_after r j) (row_is (Some (notice j (w j))))
 
-      kept-notice : Kept (x ∷ h) (served_by n d.next ws (Of j))
+      kept-notice : Kept (x ∷ h) (served_by n d.next ws (Some j))
       unfolding unheard since number sent_reports
       kept-notice = record {
-        row = sym (row_is (Notice j (w j)));
+        row = sym (row_is (Some (notice j (w j))));
         next = sym next-is;
         places = length-set ws j nothing ∙ gather-length d.waiting (map told_in rows) ∙ k.places;
         waits = λ i.
@@ -258,18 +256,18 @@ module _ (N : ℕ) where
             ∙ ap (λ (v : Waiting). cond (eqb i j) nothing v) (waits-due i)
             ∙ sym (left_is i (eqb i j) refl);
         few = λ i. few-step (left (x ∷ h) i) (tells (left (x ∷ h) i)) refl (unheard h i) (of_left i (λ v. v.reports ≤ unheard h i + 1) (few-left i (eqb i j)));
-        fits = omega (arith, row_is (Notice j (w j)), ok.most);
+        fits = omega (arith, row_is (Some (notice j (w j))), ok.most);
         passed = λ n' i may l.
-            let q = may (omega (arith, row_is (Notice j (w j)), ok.some-line)) in
-            let same : n ≡ n' = sym (row_is (Notice j (w j))) ∙ q in
+            let q = may (omega (arith, row_is (Some (notice j (w j))), ok.some-line)) in
+            let same : n ≡ n' = sym (row_is (Some (notice j (w j)))) ∙ q in
             subst (λ (y : ℕ). Passed y (next_in N (x ∷ h)) i (count i (left (x ∷ h) i))) same
             (subst (λ (a : ℕ). Passed n a i (count i (left (x ∷ h) i))) (sym next-is)
             (of_left i (λ v. Passed n (place_after n j) i (count i v)) (nearer-at i (omega arith) (eqb i j) refl (tells (w i)) refl)));
-        outside = none-outside (Notice j (w j));
+        outside = none-outside (Some (notice j (w j)));
         sum = λ i. sum-at i (eqb i j) refl;
       }
 
-    kept-turn : (r : Turn) → Round (λ i. tells (w i)) n (next_in N h) r → Kept (e (sent_of w r) ∷ h) (served_by n d.next ws r)
+    kept-turn : (r : Option ℕ) → Round (λ i. tells (w i)) n (next_in N h) r → Kept (e (sent_of w r) ∷ h) (served_by n d.next ws r)
     kept-turn r (nobody g) = kept-quiet g
     kept-turn r (turn-of j t) = kept-notice j t
 

@@ -6,6 +6,7 @@ use Prim.Native.Nat.{ℕ, zero, suc, min, ◌<◌}
 use native.Mathlib.Omega.{arith}
 use borrow.Author.Tests.{lt-ltb, le-ltb}
 use lib.Dec.{ltb, eqb, leb-suc-suc, eqb-zero-suc, eqb-suc-zero, eqb-suc-suc}
+use Rattle.std.proofs.lemmas.List.{map-id, map-append, map-set}
 use lib.ListN.{length, get_or, set, take, drop, length-take, take-append-drop}
 use Rattle.answers.specs.Fronts.{silent}
 use Rattle.answers.specs.declared.Tick.{Tick}
@@ -13,6 +14,7 @@ use Rattle.line.specs.Lines.{Verdict, blank_line}
 use Rattle.line.specs.declared.Line.{Line}
 use Rattle.std.specs.Prelude.{Ok, Err}
 use Rattle.dispatcher.specs.Dispatch.{gathered, gather_all, wrong_row, ticked_row, told_row, dispatch_of}
+use Rattle.dispatcher.proofs.RowLaws.{gather_none}
 use Rattle.dispatcher.specs.declared.Waiting.{Waiting}
 use Rattle.group.specs.Groups.{rate_of, named, verdict_of, rated_row, row_of as rated_by}
 use Rattle.demand.specs.Calls.{Call, tick}
@@ -29,8 +31,7 @@ row_same f e [] = refl
 row_same f e (l ∷ ls) = rw (e 0) (ap (λ (ps : List Past). past [] l ∷ ps) (row_same (λ i. f (suc i)) (λ i. e (suc i)) ls))
 
 lines_same : (ls : List Line) → map line_after (map (past []) ls) ≡ ls
-lines_same [] = refl
-lines_same (l ∷ ls) = ap (λ (ks : List Line). l ∷ ks) (lines_same ls)
+lines_same ls = map-map line_after (past []) ls ∙ map-id ls
 
 -- ---- the first m lines are ticked
 abbrev Ticks : ℕ → (ℕ → List Call) → Type 0
@@ -48,8 +49,9 @@ row-ticked (suc m) f t (l ∷ ls) =
 module _ {B : Type 0} (g : Past → B) where
   ticked-map : (row others : List Line) →
       map g (map (λ l. called_on l tick) row ++ map (past []) others) ≡ map (λ l. g (called_on l tick)) row ++ map (λ l. g (past [] l)) others
-  ticked-map [] others = map-map g (past []) others
-  ticked-map (l ∷ row) others = ap (λ (ys : List B). g (called_on l tick) ∷ ys) (ticked-map row others)
+  ticked-map row others =
+      map-append g (map (λ l. called_on l tick) row) (map (past []) others)
+      ∙ rw (map-map g (λ l. called_on l tick) row, map-map g (past []) others) refl
 
   of_row_lem : (m : ℕ) (ls : List Line) →
       map g (row_after (calls_at (tick_row m)) ls) ≡ map (λ l. g (called_on l tick)) (take m ls) ++ map (λ l. g (past [] l)) (drop m ls)
@@ -57,22 +59,14 @@ module _ {B : Type 0} (g : Past → B) where
 
 lines-ticked : (m : ℕ) (ls : List Line) → map line_after (row_after (calls_at (tick_row m)) ls) ≡ ticked_row (take m ls) ++ drop m ls
 unfolding step
-lines-ticked m ls = of_row_lem line_after m ls ∙ ap (λ (ks : List Line). ticked_row (take m ls) ++ ks) (same (drop m ls))
-  where
-    same : (ks : List Line) → map (λ l. l) ks ≡ ks
-    same [] = refl
-    same (k ∷ ks) = ap (λ (js : List Line). k ∷ js) (same ks)
+lines-ticked m ls = of_row_lem line_after m ls ∙ ap (λ (ks : List Line). ticked_row (take m ls) ++ ks) (map-id (drop m ls))
 
 -- a line that got no tick tells nothing
 gather-rest : (ws : List Waiting) (ts : List Tick) (others : List Line) → gather_all ws (ts ++ map (λ l. silent) others) ≡ gather_all ws ts
 unfolding gather_all
 gather-rest [] ts others = refl
 gather-rest (w ∷ ws) [] [] = refl
-gather-rest (w ∷ ws) [] (l ∷ others) = rw (gathered-silent w) (ap (λ (vs : List Waiting). w ∷ vs) (gather-rest ws [] others ∙ same ws))
-  where
-    same : (ws : List Waiting) → gather_all ws [] ≡ ws
-    same [] = refl
-    same (v ∷ ws) = refl
+gather-rest (w ∷ ws) [] (l ∷ others) = rw (gathered-silent w) (ap (λ (vs : List Waiting). w ∷ vs) (gather-rest ws [] others ∙ gather_none ws))
 gather-rest (w ∷ ws) (t ∷ ts) others = ap (λ (vs : List Waiting). gathered w t ∷ vs) (gather-rest ws ts others)
 
 gather-ticked : (ws : List Waiting) (m : ℕ) (ls : List Line) →
@@ -127,11 +121,6 @@ row-set p c f t [] = refl
 row-set zero c f t (l ∷ ls) = rw (t 0, row_same (λ i. f (suc i)) (λ i. t (suc i) ∙ rw (eqb-suc-zero i)) ls)
 row-set (suc p) c f t (l ∷ ls) =
     rw (t 0, eqb-zero-suc p) (ap (λ (ps : List Past). past [] l ∷ ps) (row-set p c (λ i. f (suc i)) (λ i. t (suc i) ∙ rw (eqb-suc-suc i p)) ls))
-
-map-set : {B : Type 0} (g : Past → B) (ps : List Past) (i : ℕ) (p : Past) → map g (set ps i p) ≡ set (map g ps) i (g p)
-map-set g [] i p = refl
-map-set g (q ∷ ps) zero p = refl
-map-set {B = B} g (q ∷ ps) (suc i) p = ap (λ (ys : List B). g q ∷ ys) (map-set g ps i p)
 
 call_step_lem : (k : Card) (p : ℕ) (c : Call) → card_step k (on_line p c) ≡ call_step k p c
 call_step_lem k p c =

@@ -6,15 +6,15 @@ use native.Mathlib.Omega.{arith}
 use native.Mathlib.Decide.{dec_lt}
 use borrow.Author.Tests.{ltb-true, ltb-false}
 use lib.Dec.{ltb}
-use Rattle.dispatcher.specs.Dispatch.{first_from, or_else, going_round, place_after}
-use Rattle.dispatcher.specs.declared.Turn.{Turn}
-use Rattle.dispatcher.specs.declared.Turn.TheVariants.{None, Of}
+use Rattle.dispatcher.specs.Dispatch.{first_from, going_round, place_after}
+use Rattle.std.specs.Prelude.{Option, Some, None}
+use Rattle.std.specs.Option.{option_or}
 
 module _ (f : ℕ → Bool) where
   -- the first of k places from a on
-  data First (a k : ℕ) : Turn → Type 0 where
+  data First (a k : ℕ) : Option ℕ → Type 0 where
     nowhere : ((i : ℕ) → a ≤ i → i < a + k → f i ≡ false) → First a k None
-    first : (j : ℕ) → a ≤ j → j < a + k → f j ≡ true → ((i : ℕ) → a ≤ i → i < j → f i ≡ false) → First a k (Of j)
+    first : (j : ℕ) → a ≤ j → j < a + k → f j ≡ true → ((i : ℕ) → a ≤ i → i < j → f i ≡ false) → First a k (Some j)
 
   at_or_after : (a i : ℕ) → a ≤ i → f a ≡ false → (suc a ≤ i → f i ≡ false) → f i ≡ false
   at_or_after a i h e g = by (dec_lt a i)
@@ -23,11 +23,11 @@ module _ (f : ℕ → Bool) where
       by (yes l) = g l
       by (no l) = let same : i ≡ a = omega arith in rw same e
 
-  later : (a k : ℕ) (r : Turn) → f a ≡ false → First (suc a) k r → First a (suc k) r
+  later : (a k : ℕ) (r : Option ℕ) → f a ≡ false → First (suc a) k r → First a (suc k) r
   later a k r e (nowhere g) = nowhere (λ i h l. at_or_after a i h e (λ h'. g i h' (omega arith)))
   later a k r e (first j h l t g) = first j (omega arith) (omega arith) t (λ i h' l'. at_or_after a i h' e (λ h''. g i h'' l'))
 
-  first-here : (a k : ℕ) (r : Turn) (b : Bool) → f a ≡ b → First (suc a) k r → First a (suc k) (cond b (Of a) r)
+  first-here : (a k : ℕ) (r : Option ℕ) (b : Bool) → f a ≡ b → First (suc a) k r → First a (suc k) (cond b (Some a) r)
   first-here a k r true e g = first a (omega arith) (omega arith) e (λ i h l. absurd (let c : a < a = omega arith in omega arith))
   first-here a k r false e g = later a k r e g
 
@@ -43,9 +43,9 @@ module _ (f : ℕ → Bool) where
     pub onward : (i : ℕ) → a ≤ i → i < n → f i ≡ true → (a ≤ j) × (j ≤ i)
     pub round : (i : ℕ) → i < a → j < a → f i ≡ true → j ≤ i
 
-  pub data Round (n a : ℕ) : Turn → Type 0 where
+  pub data Round (n a : ℕ) : Option ℕ → Type 0 where
     nobody : ((i : ℕ) → i < n → f i ≡ false) → Round n a None
-    turn-of : (j : ℕ) → Foremost n a j → Round n a (Of j)
+    turn-of : (j : ℕ) → Foremost n a j → Round n a (Some j)
 
   clash : {A : Type 0} (i : ℕ) → f i ≡ true → f i ≡ false → A
   clash i t e = absurd (true≢false (sym t ∙ e))
@@ -57,7 +57,7 @@ module _ (f : ℕ → Bool) where
       by (yes l) = clash i t (g l)
       by (no l) = omega arith
 
-  two_parts : (n a : ℕ) → a ≤ n → (r s : Turn) → First a (n - a) r → First 0 (min a n) s → Round n a (or_else r s)
+  two_parts : (n a : ℕ) → a ≤ n → (r s : Option ℕ) → First a (n - a) r → First 0 (min a n) s → Round n a (option_or r s)
   two_parts n a h r s (first j u v t g) x =
       turn-of j (record { inside = omega arith; holds = t; onward = λ i p q e. (u, not-before i j (g i p) e); round = λ i p q e. absurd (omega arith) })
   two_parts n a h r s (nowhere g) (first j u v t k) =

@@ -3,7 +3,6 @@
 use mathlib.Core.Path.{◌≡◌, refl, sym, ap, subst, ◌∙◌}
 use mathlib.Core.Bool.{Bool, true, false, cond}
 use mathlib.Core.List.{List, [], ◌∷◌, ◌++◌, map, append-nil}
-use mathlib.Core.Option.{Option, none, some}
 use Prim.Native.Nat.{ℕ, min, ◌≤◌, ◌<◌}
 use native.Mathlib.Decide.{dec_lt}
 use native.Mathlib.Omega.{arith}
@@ -12,7 +11,7 @@ use lib.ListN.{length, get_or, take, length-map, get_or-map}
 use Rattle.descriptor.specs.Refusals.{refusal_number}
 use Rattle.line.specs.Lines.{Verdict, make_of, blank_line}
 use Rattle.line.specs.declared.Line.{Line}
-use Rattle.std.specs.Prelude.{Ok, Err, Some}
+use Rattle.std.specs.Prelude.{Option, Some, None, Ok, Err}
 use Rattle.dispatcher.specs.Dispatch.{wrong_row, sent_of, turn_of}
 use Rattle.group.specs.Groups.{verdict_of}
 use Rattle.demand.specs.Calls.{Call, tick, Entry}
@@ -101,10 +100,10 @@ module _ (ms : List Making) where
           by (no o) = row-none (calls_at (tick_row m)) k.lines i (no-tick i (omega arith))
 
       -- the length that the dispatcher keeps is the first of the history
-      refusal_is : refusal k (tick_row m) ≡ cond (wrong_row (row_in N h) (min m N)) (Some 14) none
-      refusal_is = λ i. cond (wrong_row (x.kept.row i) (min m (x.size i))) (Some 14) none
+      refusal_is : refusal k (tick_row m) ≡ cond (wrong_row (row_in N h) (min m N)) (Some 14) None
+      refusal_is = λ i. cond (wrong_row (x.kept.row i) (min m (x.size i))) (Some 14) None
 
-      tick-good : (b : Bool) → wrong_row (row_in N h) (min m N) ≡ b → Step h (step_by (cond b (Some 14) none) k (tick_row m))
+      tick-good : (b : Bool) → wrong_row (row_in N h) (min m N) ≡ b → Step h (step_by (cond b (Some 14) None) k (tick_row m))
       unfolding line_history line_calls
       tick-good true e = record { replied = rw e; coupled = refused-good (tick_row m) 14 }
       tick-good false e =

@@ -1,6 +1,5 @@
 -- A card: lines in a row and their dispatcher, the calls on it, and the history of a list of them.
-use Rattle.std.specs.Prelude.{cond, List, [], ◌∷◌, map, ℕ, suc, min, ltb, eqb, length, take, Ok, Err}
-use Rattle.std.specs.Prelude.{Option, None, Some}
+use Rattle.std.specs.Prelude.{cond, List, [], ◌∷◌, map, ℕ, suc, min, ltb, eqb, length, take, Option, Some, None, Ok, Err}
 use Rattle.answers.specs.Fronts.{silent}
 use Rattle.answers.specs.declared.Tick.{Tick}
 use Rattle.phase_lists.specs.Lists.{no_lists}
@@ -11,7 +10,7 @@ use Rattle.line.specs.Lines.{Verdict, make_of}
 use Rattle.line.specs.declared.Line.{Line}
 use Rattle.dispatcher.specs.Dispatch.{fresh_dispatcher, wrong_row, sent_by, after_tick}
 use Rattle.dispatcher.specs.declared.Dispatcher.{Dispatcher}
-use Rattle.dispatcher.specs.declared.Sent.{Sent}
+use Rattle.dispatcher.specs.declared.Notice.{Notice}
 use Rattle.group.specs.Groups.{named, verdict_of}
 use Rattle.demand.specs.Calls.{Call, tick, Entry}
 use Rattle.demand.specs.History.{told}
@@ -27,7 +26,7 @@ pub data CardCall : Type 0 where
 -- done, the line's answer standing in its own entry; what a tick of the dispatcher sends; a refusal's number
 pub data CardReply : Type 0 where
   done : CardReply
-  sends : (s : Sent) → CardReply
+  sends : (s : Option Notice) → CardReply
   refuses : (number : ℕ) → CardReply
 
 -- a call, its reply, and the entries that it made on each line of the card, none or one; a refused call made no entry
@@ -67,13 +66,13 @@ told_in (e ∷ es) = told e.answer
 
 -- the number that a verdict refuses with
 abbrev pub refused_with : Verdict → Option ℕ
-refused_with (Ok k) = none
-refused_with (Err r) = some (refusal_number r)
+refused_with (Ok k) = None
+refused_with (Err r) = Some (refusal_number r)
 
 -- the number that it is refused with; a card that is shorter than m is lent whole
 abbrev pub refusal : Card → CardCall → Option ℕ
-refusal k (on_line p c) = none
-refusal k (tick_row m) = cond (wrong_row k.dispatcher.length (min m (length k.lines))) (Some 14) none
+refusal k (on_line p c) = None
+refusal k (tick_row m) = cond (wrong_row k.dispatcher.length (min m (length k.lines))) (Some 14) None
 refusal k (group m ps P) = refused_with (verdict_of (take m k.lines) ps P)
 
 -- not refused: its reply where it made these entries, and the dispatcher after it
@@ -103,7 +102,7 @@ taken_by k c ps =
 -- a refused call leaves the card as it was
 abbrev pub step_by : Option ℕ → Card → CardCall → Stepped
 step_by (Some number) k c = record { entry = card_entry c (refuses number) []; card = k }
-step_by none k c = taken_by k c (row_after (calls_at c) k.lines)
+step_by None k c = taken_by k c (row_after (calls_at c) k.lines)
 
 abbrev pub card_step : Card → CardCall → Stepped
 card_step k c = step_by (refusal k c) k c

@@ -1,9 +1,8 @@
 -- R-4 to R-6: one claim about the history of every list of calls on a card of fresh lines with a fresh dispatcher.
-use Rattle.std.specs.Prelude.{◌≡◌, true, false, cond, List, [], ◌∷◌, ◌++◌, ℕ, ◌+◌, ◌^◌, min, ◌≤◌, ◌<◌, length, get_or}
+use Rattle.std.specs.Prelude.{◌≡◌, true, false, cond, List, [], ◌∷◌, ◌++◌, ℕ, ◌+◌, ◌^◌, min, ◌≤◌, ◌<◌, length, get_or, Some}
 use Rattle.descriptor.specs.Refusals.{sound_configuration}
-use Rattle.dispatcher.specs.Dispatch.{tells, bad_row, wrong_row, sent_of, turn_of, waits_in}
+use Rattle.dispatcher.specs.Dispatch.{tells, notice, bad_row, wrong_row, sent_of, turn_of, waits_in}
 use Rattle.dispatcher.specs.declared.Waiting.{Waiting}
-use Rattle.dispatcher.specs.declared.Sent.TheVariants.{Notice}
 use Rattle.group.specs.Groups.{named, outside}
 use Rattle.demand.specs.Calls.{Call, Answer, accepted, refused, asked, counters, ticked, Entry}
 use Rattle.demand.specs.Answers.{answer_after}
@@ -29,7 +28,7 @@ AllSound ms =
 abbrev pub HeardWithin : ℕ → ℕ → List CardEntry → Type 0
 HeardWithin i k part =
     (after until : List CardEntry) × (e : CardEntry) × (told : Waiting) × (part ≡ after ++ (e ∷ until)) ×
-    (e.reply ≡ sends (Notice i told)) × (row_ticks (e ∷ until) ≤ k)
+    (e.reply ≡ sends (Some (notice i told))) × (row_ticks (e ∷ until) ≤ k)
 
 -- ---- a rate command for a group of lines
 

@@ -1,5 +1,5 @@
 -- Examples of notices, and of rate commands for a group, computed.
-use Rattle.std.specs.Prelude.{◌≡◌, refl, true, false, List, [], ◌∷◌, ◌++◌, map, reverse, ℕ, zero, suc, replicate}
+use Rattle.std.specs.Prelude.{◌≡◌, refl, true, false, List, [], ◌∷◌, ◌++◌, map, reverse, ℕ, zero, suc, replicate, Option, Some, None}
 use Rattle.answers.specs.declared.Front.TheVariants.{Tariff}
 use Rattle.answers.specs.declared.Tick.{Tick}
 use Rattle.tariff.specs.Tariffs.{em_of, rate_of}
@@ -13,11 +13,10 @@ use Rattle.descriptor.specs.declared.BurstPart.TheVariants.{Keep}
 use Rattle.state.specs.States.{count_of, count_by}
 use Rattle.ticking.specs.Moves.{moved_by, since_front, burst_after}
 use Rattle.line.specs.Lines.{make_of, fresh_line, describe_of, tariff_changed, burst_changed, period_of, tick_of}
-use Rattle.dispatcher.specs.Dispatch.{nothing, gather_all, waits_in, first_from, fresh_dispatcher, sent_by, after_tick}
+use Rattle.dispatcher.specs.Dispatch.{nothing, notice, gather_all, waits_in, first_from, fresh_dispatcher, sent_by, after_tick}
 use Rattle.dispatcher.specs.declared.Waiting.{Waiting}
 use Rattle.dispatcher.specs.declared.Dispatcher.{Dispatcher}
-use Rattle.dispatcher.specs.declared.Sent.{Sent}
-use Rattle.dispatcher.specs.declared.Sent.TheVariants.{Quiet, Notice}
+use Rattle.dispatcher.specs.declared.Notice.{Notice}
 use Rattle.group.specs.Groups.{named, outside, first_refusal, verdict_of}
 use Rattle.demand.specs.Calls.{Call, period, Answer, accepted}
 use Rattle.demand.specs.Machine.{parts, after_calls, step}
@@ -28,7 +27,7 @@ use Rattle.card_demand.specs.Reading.{line_history, since, left}
 -- ---- three lines, each with a report in every tick: the last is heard in the third, and then each in every third
 
 -- what a dispatcher sends in a row of n, where the lines tell these ticks one after the other
-unfoldable pub sent_in_turn : Dispatcher → ℕ → List (List Tick) → List Sent
+unfoldable pub sent_in_turn : Dispatcher → ℕ → List (List Tick) → List (Option Notice)
 sent_in_turn d n [] = []
 sent_in_turn d n (ts ∷ rest) = sent_by d n ts ∷ sent_in_turn (after_tick d n ts) n rest
 
@@ -43,11 +42,11 @@ reports_only n = record { tariff = false; burst = false; reports = n }
 
 pub three-lines :
     sent_in_turn fresh_dispatcher 3 (all_report ∷ all_report ∷ all_report ∷ all_report ∷ all_report ∷ [])
-    ≡ Notice 0 (reports_only 1)
-    ∷ Notice 1 (reports_only 2)
-    ∷ Notice 2 (reports_only 3)
-    ∷ Notice 0 (reports_only 3)
-    ∷ Notice 1 (reports_only 3)
+    ≡ Some (notice 0 (reports_only 1))
+    ∷ Some (notice 1 (reports_only 2))
+    ∷ Some (notice 2 (reports_only 3))
+    ∷ Some (notice 0 (reports_only 3))
+    ∷ Some (notice 1 (reports_only 3))
     ∷ []
 unfolding sent_in_turn fresh_dispatcher gather_all first_from
 three-lines = refl
@@ -61,7 +60,7 @@ pub most-waiting : waits_in (after_reports 63).waiting 63 ≡ reports_only 63
 unfolding after_reports fresh_dispatcher gather_all first_from
 most-waiting = refl
 
-pub last-heard : sent_by (after_reports 63) 64 (replicate 64 reporting) ≡ Notice 63 (reports_only 64)
+pub last-heard : sent_by (after_reports 63) 64 (replicate 64 reporting) ≡ Some (notice 63 (reports_only 64))
 unfolding after_reports fresh_dispatcher gather_all first_from
 last-heard = refl
 
@@ -89,9 +88,9 @@ tariff_mark = record { tariff = true; burst = false; reports = 0 }
 -- the round goes on from place 1: 1, 2, 0
 pub collision-sent :
     replies (replicate 3 making) (collision ++ (tick_row 3 ∷ tick_row 3 ∷ tick_row 3 ∷ []))
-    ≡ done ∷ done ∷ sends (Notice 0 (reports_only 1)) ∷ sends Quiet ∷ sends Quiet ∷ done ∷ sends Quiet
-    ∷ done ∷ done ∷ sends (Notice 1 (reports_only 1))
-    ∷ sends (Notice 2 tariff_mark) ∷ sends (Notice 0 (reports_only 1)) ∷ sends Quiet ∷ []
+    ≡ done ∷ done ∷ sends (Some (notice 0 (reports_only 1))) ∷ sends None ∷ sends None ∷ done ∷ sends None
+    ∷ done ∷ done ∷ sends (Some (notice 1 (reports_only 1)))
+    ∷ sends (Some (notice 2 tariff_mark)) ∷ sends (Some (notice 0 (reports_only 1))) ∷ sends None ∷ []
 unfolding card_past after_card_calls row_after after_calls step
     fresh_dispatcher gather_all first_from make_of fresh_line
     describe_of ruling sound_em distance_of tariff_changed burst_changed em_of period_of tick_of moved_by step_of due_of
@@ -112,7 +111,7 @@ collision-left = refl
 pub lengths :
     replies (replicate 65 making)
     (tick_row 0 ∷ tick_row 65 ∷ tick_row 2 ∷ tick_row 3 ∷ tick_row 1 ∷ tick_row 0 ∷ tick_row 2 ∷ [])
-    ≡ refuses 14 ∷ refuses 14 ∷ sends Quiet ∷ refuses 14 ∷ refuses 14 ∷ refuses 14 ∷ sends Quiet ∷ []
+    ≡ refuses 14 ∷ refuses 14 ∷ sends None ∷ refuses 14 ∷ refuses 14 ∷ refuses 14 ∷ sends None ∷ []
 unfolding card_past after_card_calls row_after after_calls step fresh_dispatcher
     gather_all first_from make_of fresh_line tick_of
     moved_by step_of due_of completes_of aged_of count_by since_front burst_after

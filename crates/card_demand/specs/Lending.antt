@@ -1,13 +1,11 @@
 -- What the contracts of dispatcher and group compute of a lent row is the step of the card, and so is what a call makes
 -- of a line.
-use Rattle.std.specs.Prelude.{◌≡◌, cond, List, [], ◌++◌, map, ℕ, length, get_or, set, take, drop, Ok, Err}
+use Rattle.std.specs.Prelude.{◌≡◌, cond, List, [], ◌++◌, map, ℕ, length, get_or, set, take, drop, Ok, Err, is_ok, if◌then◌else◌}
 use Rattle.descriptor.specs.Refusals.{refusal_number}
 use Rattle.line.specs.Lines.{Verdict, blank_line}
 use Rattle.line.specs.declared.Line.{Line}
-use Rattle.dispatcher.specs.Dispatch.{wrong_row, row_of, dispatch_of}
-use Rattle.dispatcher.specs.declared.Reply.{Reply}
-use Rattle.dispatcher.specs.declared.Reply.TheVariants.{Sends, Refuses}
-use Rattle.group.specs.Groups.{if_accepted, verdict_of, row_of as rated_by}
+use Rattle.dispatcher.specs.Dispatch.{Reply, wrong_row, row_of, dispatch_of}
+use Rattle.group.specs.Groups.{verdict_of, row_of as rated_by}
 use Rattle.demand.specs.Calls.{Call, tick, Entry}
 use Rattle.demand.specs.Machine.{Past, past, after_call, entries, line_after}
 use Rattle.card_demand.specs.Card.{on_line, tick_row, group, CardReply, done, sends, refuses, card_entry}
@@ -15,8 +13,8 @@ use Rattle.card_demand.specs.Card.{Card, calls_at, row_after, Stepped, card_step
 
 -- the dispatcher's reply on the card: a refusal by its number
 abbrev pub replied : Reply → CardReply
-replied (Sends s) = sends s
-replied (Refuses r) = refuses (refusal_number r)
+replied (Ok s) = sends s
+replied (Err r) = refuses (refusal_number r)
 
 -- the group's reply on the card
 abbrev pub group_reply : Verdict → CardReply
@@ -55,7 +53,7 @@ group_step k m ps P =
     record {
       entry =
           card_entry (group m ps P) (group_reply v)
-          (if_accepted v (map entries (row_after (calls_at (group m ps P)) k.lines)) []);
+          (if is_ok v then map entries (row_after (calls_at (group m ps P)) k.lines) else []);
       card = record { lines = rated_by row ps P ++ others; dispatcher = k.dispatcher };
     }
 

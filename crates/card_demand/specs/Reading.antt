@@ -1,10 +1,9 @@
 -- What a card's history says of each line: read from its calls, its replies and the lines' entries alone.
-use Rattle.std.specs.Prelude.{Bool, true, false, cond, ◌&&◌, List, [], ◌∷◌, ◌++◌, ℕ, ◌+◌, min, ltb, eqb, get_or}
+use Rattle.std.specs.Prelude.{Bool, true, false, cond, ◌&&◌, List, [], ◌∷◌, ◌++◌, ℕ, ◌+◌, min, ltb, eqb, get_or, Option, Some, None}
 use Rattle.answers.specs.declared.Tick.{Tick}
 use Rattle.dispatcher.specs.Dispatch.{place_after}
 use Rattle.dispatcher.specs.declared.Waiting.{Waiting}
-use Rattle.dispatcher.specs.declared.Sent.{Sent}
-use Rattle.dispatcher.specs.declared.Sent.TheVariants.{Quiet, Notice}
+use Rattle.dispatcher.specs.declared.Notice.{Notice}
 use Rattle.demand.specs.Calls.{Call, Entry}
 use Rattle.card_demand.specs.Card.{CardCall, on_line, tick_row, group, done, sends, refuses, CardEntry}
 use Rattle.card_demand.specs.Card.{calls_at, told_in}
@@ -31,8 +30,8 @@ abbrev pub is_tick : CardEntry → Bool
 is_tick e = elim e.reply [ done ↦ false | sends s ↦ true | refuses n ↦ false ]
 
 -- what an entry puts on the link
-abbrev pub sent_in : CardEntry → Sent
-sent_in e = elim e.reply [ done ↦ Quiet | sends s ↦ s | refuses n ↦ Quiet ]
+abbrev pub sent_in : CardEntry → Option Notice
+sent_in e = elim e.reply [ done ↦ None | sends s ↦ s | refuses n ↦ None ]
 
 abbrev pub one_if : Bool → ℕ → ℕ
 one_if b n = cond b (n + 1) n
@@ -61,7 +60,7 @@ module _ (N : ℕ) where
   -- the place after the last served, at first place 0
   unfoldable pub next_in : List CardEntry → ℕ
   next_in [] = 0
-  next_in (e ∷ h) = elim (sent_in e) [ Quiet ↦ next_in h | Notice j told ↦ place_after (row_in (e ∷ h)) j ]
+  next_in (e ∷ h) = elim (sent_in e) [ None ↦ next_in h | Some n ↦ place_after (row_in (e ∷ h)) n.place ]
 
 -- ---- what fell on the line at place i in ticks of the dispatcher: f picks a completion or the report
 
@@ -83,7 +82,7 @@ fallen f h i = number (λ e. fell f e i) h
 
 -- the notice of the line
 abbrev pub serves : CardEntry → ℕ → Bool
-serves e i = elim (sent_in e) [ Quiet ↦ false | Notice j told ↦ eqb i j ]
+serves e i = elim (sent_in e) [ None ↦ false | Some n ↦ eqb i n.place ]
 
 -- how many fell since its last notice
 unfoldable pub since : (Tick → Bool) → List CardEntry → ℕ → ℕ
@@ -94,8 +93,8 @@ since f (e ∷ h) i = cond (serves e i) 0 (one_if (fell f e i) (since f h i))
 unfoldable pub sent_reports : List CardEntry → ℕ → ℕ
 sent_reports [] i = 0
 sent_reports (e ∷ h) i =
-    let n = sent_reports h i in
-    elim (sent_in e) [ Quiet ↦ n | Notice j told ↦ cond (eqb i j) (n + told.reports) n ]
+    let k = sent_reports h i in
+    elim (sent_in e) [ None ↦ k | Some n ↦ cond (eqb i n.place) (k + n.told.reports) k ]
 
 -- ---- what there is to tell
 

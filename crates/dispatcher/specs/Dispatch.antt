@@ -1,8 +1,9 @@
 -- The dispatcher: what waits to be told of each line, whose turn it is, and what one tick of a card sends.
 use Rattle.std.specs.Prelude.{Bool, false, not, if◌then◌else◌, ◌&&◌, ◌||◌, List, [], ◌∷◌, map, ℕ, zero, suc, ◌+◌, ◌-◌}
-use Rattle.std.specs.Prelude.{min, nat_lt, ◌==◌, length, get_or, set, replicate, Option, Some, None, option_map, Ok, Err}
+use Rattle.std.specs.Prelude.{min, nat_lt, ◌==◌, length, get_or, set, replicate, Option, Some, None, option_map, Result, Ok, Err}
 use Rattle.std.specs.Option.{option_or}
 use Rattle.answers.specs.declared.Tick.{Tick}
+use Rattle.descriptor.specs.declared.Refusal.{Refusal}
 use Rattle.descriptor.specs.declared.Refusal.TheVariants.{Row}
 use Rattle.state.specs.Rules.{one_more}
 use Rattle.line.specs.Lines.{tick_of}
@@ -63,10 +64,11 @@ turn_of w n next = going_round (λ i. tells (w i)) n next
 unfoldable pub fresh_dispatcher : Dispatcher
 fresh_dispatcher = record { length = 0; next = 0; waiting = replicate 64 nothing }
 
--- a row of n is empty, longer than 64, or of another length than at first
+-- a row of n is empty or longer than 64
 abbrev pub bad_row : ℕ → Bool
 bad_row n = n == 0 || nat_lt 64 n
 
+-- or of another length than at first
 abbrev pub wrong_row : ℕ → ℕ → Bool
 wrong_row first n = bad_row n || (nat_lt 0 first && not (n == first))
 
@@ -96,6 +98,10 @@ ticked_row ls = map (λ l. (tick_of l).line) ls
 
 abbrev pub told_row : List Line → List Tick
 told_row ls = map (λ l. (tick_of l).tick) ls
+
+-- what a tick is answered: what it sends, or why the row is refused
+abbrev pub Reply : Type 0
+Reply = Result (Option Notice) Refusal
 
 -- a wrong row is refused first of all, and then nothing moves
 abbrev pub row_of : Dispatcher → List Line → List Line

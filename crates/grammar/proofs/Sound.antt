@@ -37,7 +37,7 @@ so_far (whole t) = pieces_of t
 so_far wrong = none
 
 -- the piece of a kind and a word
-abbrev piece_from : ℕ → List ℕ → Piece
+abbrev pub piece_from : ℕ → List ℕ → Piece
 piece_from k w =
     cond (eqb k 0) (name w)
     (cond (eqb k 1) (number w)
@@ -50,7 +50,7 @@ piece_from k w =
     (cond (eqb k 8) to
     (cond (eqb k 9) comma equals)))))))))
 
-from-kind : (p : Piece) → piece_from (kind_of p) (word_of p) ≡ p
+pub from-kind : (p : Piece) → piece_from (kind_of p) (word_of p) ≡ p
 from-kind (name w) = refl
 from-kind (number w) = refl
 from-kind SG = refl

@@ -1,6 +1,3 @@
 -- The files of this folder, lowest first.
-pub mod MarkLaws
-pub mod Passing
-pub mod AskLaws
 pub mod RateLaws
-pub mod GroupLaws
+pub mod AskLaws

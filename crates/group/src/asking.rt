@@ -1,35 +1,42 @@
 // What the lines of a group would answer.
 ghost use Rattle.std.specs.Prelude.{◌≡◌};
-ghost use Rattle.group.specs.Groups.{or_else};
-ghost use Rattle.group.specs.Passes.{asked_of};
+ghost use Rattle.dispatcher.specs.Dispatch.{bad_row};
+ghost use Rattle.group.specs.Groups.{rate_of, verdict_of};
 
-use descriptor::{BurstPart, TariffPart};
-use line::Verdict;
-use state::State;
+use descriptor::{BurstPart, Descriptor, Refusal, TariffPart};
+use line::{Answered, Line, Verdict};
+use phase_lists::PhaseLists;
 
-// What a line of this spacing and state would answer to the rate command.
-pub(crate) fn asked(spacing: u32, state: State, interval: u32) -> Verdict
-    ensures { result ≡ asked_of spacing state interval }
+// The rate command, burst keep, on one line.
+pub(crate) fn rated(line: Line, interval: u32) -> Answered
+    ensures { result ≡ rate_of line interval }
 {
-    let tariff = state.tariff;
-    let burst = state.burst;
-    let endless = tariff.is_endless();
-    let running = burst.is_running();
-    let table = phase_lists::no_table();
-    let part = TariffPart::Rate { interval };
-    let ruling = descriptor::ruling_on(spacing, endless, running, part, table, BurstPart::Keep);
-    match ruling {
-        Ok(()) => Ok(0),
-        Err(why) => Err(why),
-    }
+    line.describe(Descriptor::Parts {
+        tariff: TariffPart::Rate { interval },
+        lists: PhaseLists::empty(),
+        burst: BurstPart::Keep,
+    })
 }
 
-// A refusal, or where there is none the next answer.
-pub(crate) fn or_else(first: Verdict, next: Verdict) -> Verdict
-    ensures { result ≡ or_else first next }
+// Whether a row of n is refused: it is empty or longer than 64.
+fn is_bad_row(n: usize) -> bool
+    ensures { result ≡ bad_row n }
 {
-    match first {
-        Err(_) => first,
-        Ok(_) => next,
+    n == 0 || n > 64
+}
+
+// What the group is answered: a bad row comes before a place outside the row, and that before the first line that
+// refuses.
+pub(crate) fn asked(row: &[Line], places: &[u32], interval: u32) -> Verdict
+    ensures { result ≡ verdict_of row.now places.now interval }
+{
+    if is_bad_row(row.len()) {
+        return Err(Refusal::Row);
     }
+    let mut verdict = Ok(0);
+    for &place in places {
+        let line = row.get(place as usize).ok_or(Refusal::Place)?;
+        verdict = verdict.and(rated(*line, interval).verdict);
+    }
+    verdict
 }

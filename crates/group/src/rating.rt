@@ -1,49 +1,35 @@
 // A rate command for a group: all lines are asked, and then all are rated, or none.
-ghost use Rattle.std.specs.Prelude.{◌≡◌, length};
-ghost use Rattle.group.specs.Groups.{verdict_of, row_of};
-ghost use Rattle.group.specs.Passes.{Open, place_in, end_of, row_by};
+ghost use Rattle.std.specs.Prelude.{◌≡◌};
+ghost use Rattle.group.specs.Groups.{named, rated_row, verdict_of, row_of};
 
-use super::Pass;
-use super::passes::is_inside;
+use super::asking::{asked, rated};
 use line::{Line, Verdict};
 
-// The place p in a row of n, or place 0 where p is outside it.
-fn place_in(p: u32, n: usize) -> usize
-    ensures { result ≡ place_in p n }
+// Whether a place is among those of a list.
+fn is_named(places: &[u32], i: usize) -> bool
+    ensures { result ≡ named places.now i }
 {
-    if is_inside(p, n) {
-        return p as usize;
-    }
-    0
+    places.iter().any(|&place| i == place as usize)
 }
 
-// One pass over the places of a list, in list order. Only the serial and the state of a line are stored.
-pub(crate) fn pass_over(row: &mut [Line], places: &[u32], start: Pass) -> Pass
-    requires { Open start.limit (length row.old) (length places.now) }
-    ensures { (result ≡ end_of (length row.old) start row.old places.now) × (row.new ≡ row_by (length row.old) start row.old places.now) }
+// Gives the rate command to each line whose place is named, once.
+fn rate_named(row: &mut [Line], places: &[u32], interval: u32)
+    ensures { row.new ≡ rated_row (named places.now) interval row.old }
 {
-    let mut pass = start;
-    let mut i: usize = 0;
-    while i < pass.limit {
-        let p = places[i];
-        let k = place_in(p, row.len());
-        let after = pass.step(row.len(), p, row[k].spacing, row[k].serial, row[k].state);
-        row[k].serial = after.serial;
-        row[k].state = after.state;
-        pass = after.pass;
-        i += 1;
+    for (i, line) in row.iter_mut().enumerate() {
+        if is_named(places, i) {
+            *line = rated(*line, interval).line;
+        }
     }
-    pass
 }
 
 // Gives the rate command, burst keep, to the lines at the places of a list, each of them once, if all of them accept it.
 // Where the group is refused the row stays as it is.
 pub fn rate(row: &mut [Line], places: &[u32], interval: u32) -> Verdict
-    ensures { (result ≡ verdict_of row.old places.now interval) × (row.new ≡ row_of row.old places.now interval) }
+    ensures answer { result ≡ verdict_of row.old places.now interval }
+    ensures row_after { row.new ≡ row_of row.old places.now interval }
 {
-    let asking = Pass::asking(row.len(), places.len(), interval);
-    let asked = pass_over(row, places, asking);
-    let rating = asked.rating();
-    let rated = pass_over(row, places, rating);
-    rated.verdict
+    let cancelled = asked(row, places, interval)?;
+    rate_named(row, places, interval);
+    Ok(cancelled)
 }

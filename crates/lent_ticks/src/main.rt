@@ -14,118 +14,89 @@ const TICKS: u32 = 7200000;
 const ROW_TICKS: u32 = 112500;
 
 // A line after n ticks, each of which moves it on where it lies.
-fn ticked(line: Line, n: u32) -> Line
+fn ticked(mut line: Line, n: u32) -> Line
     ensures { result ≡ after_ticks n line }
 {
-    let mut held = line;
-    let mut i: u32 = 0;
-    while i < n {
-        let told = lent::tick_in_place(&mut held);
-        i += 1;
+    for _ in 0..n {
+        lent::tick_in_place(&mut line);
     }
-    held
+    line
 }
 
 // One tick of each line of a lent row, in order.
 fn tick_row(row: &mut [Line])
     ensures { row.new ≡ ticked_all row.old }
 {
-    let mut i: usize = 0;
-    while i < row.len() {
-        let told = lent::tick_in_place(&mut row[i]);
-        i += 1;
+    for line in row {
+        lent::tick_in_place(line);
     }
 }
 
 // A row of 64 lines after n ticks, each of which moves every line on where it lies.
-fn row_ticked(row: [Line; 64], n: u32) -> [Line; 64]
+fn row_ticked(mut row: [Line; 64], n: u32) -> [Line; 64]
     ensures { result ≡ row_after n row }
 {
-    let mut held = row;
-    let mut i: u32 = 0;
-    while i < n {
-        tick_row(&mut held);
-        i += 1;
+    for _ in 0..n {
+        tick_row(&mut row);
     }
-    held
+    row
 }
 
 // The same by value.
-fn valued(line: Line, n: u32) -> Line
+fn valued(mut line: Line, n: u32) -> Line
     ensures { result ≡ after_ticks n line }
 {
-    let mut now = line;
-    let mut i: u32 = 0;
-    while i < n {
-        let t = now.tick();
-        now = t.line;
-        i += 1;
+    for _ in 0..n {
+        line = line.tick().line;
     }
-    now
+    line
 }
 
 // A line with this descriptor, of the three phases that the plain program's case has.
 fn described(tariff: TariffPart, burst: BurstPart) -> Line {
-    let made = Line::make(50, 50, 0);
-    let fresh = made.line;
-    let pri = [1000u32, 500, 250];
-    let pcx = [3u32, 5, 3];
-    let repx = [37u32, 3, 2];
-    let pcn = [2u32, 4, 2];
-    let repn = [63u32, 7, 5];
-    let ci = [5u32, 5, 1];
-    let pd = [2400u32, 2400, 0];
-    let answer = fresh.describe(tariff, &pri, &pcx, &repx, &pcn, &repn, &ci, &pd, burst);
-    answer.line
+    let pri = [1000, 500, 250];
+    let pcx = [3, 5, 3];
+    let repx = [37, 3, 2];
+    let pcn = [2, 4, 2];
+    let repn = [63, 7, 5];
+    let ci = [5, 5, 1];
+    let pd = [2400, 2400, 0];
+    let fresh = Line::make(50, 50, 0).line;
+    fresh
+        .describe(tariff, &pri, &pcx, &repx, &pcn, &repn, &ci, &pd, burst)
+        .line
+}
+
+// An em of this period that does not end.
+fn em(period: u32) -> TariffPart {
+    TariffPart::Em { count: 0, period }
 }
 
 // The line of a case, which its first letter names: e for an em, p for a phased tariff, any other for a burst beside an em.
 fn line_of(letter: u8) -> Line {
-    if letter == 101 {
-        return described(
-            TariffPart::Em {
-                count: 0,
-                period: 400,
+    match letter {
+        b'e' => described(em(400), BurstPart::None),
+        b'p' => described(TariffPart::Phased, BurstPart::None),
+        _ => described(
+            em(1000),
+            BurstPart::Start {
+                pulses: 65535,
+                interval: 1,
             },
-            BurstPart::None,
-        );
+        ),
     }
-    if letter == 112 {
-        return described(TariffPart::Phased, BurstPart::None);
-    }
-    described(
-        TariffPart::Em {
-            count: 0,
-            period: 1000,
-        },
-        BurstPart::Start {
-            pulses: 65535,
-            interval: 1,
-        },
-    )
 }
 
 // The pulses of a line.
-fn counted(line: Line) -> u64 {
-    let state = line.state;
-    let counters = state.counters;
-    counters.cpc as u64
-}
-
-// The pulses of all lines of a row.
-fn row_sum(row: [Line; 64]) -> u64 {
-    let mut total: u64 = 0;
-    let mut i: usize = 0;
-    while i < 64 {
-        total = total.wrapping_add(counted(row[i]));
-        i += 1;
-    }
-    total
+fn counted(line: &Line) -> u64 {
+    u64::from(line.state.counters.cpc)
 }
 
 // The pulses of one round of a row of 64 such lines, which has as many ticks in all.
 fn row_pulses(line: Line) -> u64 {
-    row_sum(row_ticked([line; 64], ROW_TICKS))
+    let row = row_ticked([line; 64], ROW_TICKS);
+    row.iter()
+        .fold(0u64, |total, line| total.wrapping_add(counted(line)))
 }
 
 // How ticks are made: on a lent line, on a lent row of 64, or by value.
@@ -145,23 +116,17 @@ struct Case {
 
 // The way that a letter names: r for a row, v for by value, any other for a lent line.
 fn way_of(letter: u8) -> Way {
-    if letter == 114 {
-        return Way::Row;
+    match letter {
+        b'r' => Way::Row,
+        b'v' => Way::Value,
+        _ => Way::Lent,
     }
-    if letter == 118 {
-        return Way::Value;
-    }
-    Way::Lent
 }
 
 // Reads until the buffer is full or the input ends.
 fn read_full(from: &mut impl Read, buf: &mut [u8]) -> io::Result<()> {
     let mut done = 0;
-    while done < buf.len() {
-        let got = from.read(&mut buf[done..])?;
-        if got == 0 {
-            break;
-        }
+    while let got @ 1.. = from.read(&mut buf[done..])? {
         done += got;
     }
     Ok(())
@@ -169,49 +134,28 @@ fn read_full(from: &mut impl Read, buf: &mut [u8]) -> io::Result<()> {
 
 // What standard input asks for: a case; or `row` or `val`, and a case.
 fn asked(from: &mut impl Read) -> io::Result<Case> {
-    let mut buf = [0u8; 4096];
+    let mut buf = [0; 5];
     read_full(from, &mut buf)?;
     let way = way_of(buf[0]);
-    match way {
-        Way::Lent => Ok(Case {
-            letter: buf[0],
-            way,
-        }),
-        Way::Row => Ok(Case {
-            letter: buf[4],
-            way,
-        }),
-        Way::Value => Ok(Case {
-            letter: buf[4],
-            way,
-        }),
-    }
+    let letter = match way {
+        Way::Lent => buf[0],
+        Way::Row | Way::Value => buf[4],
+    };
+    Ok(Case { letter, way })
 }
 
 // The pulses of one round, which begins with the line as it is.
 fn round(line: Line, way: Way) -> u64 {
     match way {
-        Way::Lent => counted(ticked(line, TICKS)),
+        Way::Lent => counted(&ticked(line, TICKS)),
         Way::Row => row_pulses(line),
-        Way::Value => counted(valued(line, TICKS)),
+        Way::Value => counted(&valued(line, TICKS)),
     }
-}
-
-// The pulses of twenty rounds.
-fn all_pulses(line: Line, way: Way) -> u64 {
-    let mut total: u64 = 0;
-    let mut left: u32 = 20;
-    while left > 0 {
-        total = total.wrapping_add(round(line, way));
-        left -= 1;
-    }
-    total
 }
 
 fn main(rt: HostRuntime) -> io::Result<()> {
-    let what = asked(&mut rt.stdin())?;
-    let way = what.way;
-    let line = line_of(what.letter);
-    let pulses = all_pulses(line, way);
+    let Case { letter, way } = asked(&mut rt.stdin())?;
+    let line = line_of(letter);
+    let pulses = (0..20).fold(0u64, |total, _| total.wrapping_add(round(line, way)));
     println!(rt; "{pulses}")
 }

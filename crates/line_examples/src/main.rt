@@ -34,18 +34,9 @@ fn refused(number: u32, verdict: Verdict) -> bool
 fn ask(line: Line, tariff: TariffPart, burst: BurstPart) -> line::Answered
     ensures { result ≡ describe_of line tariff no_lists burst }
 {
-    let lists = PhaseLists {
-        pri: &[],
-        pcx: &[],
-        repx: &[],
-        pcn: &[],
-        repn: &[],
-        ci: &[],
-        pd: &[],
-    };
     line.describe(Descriptor::Parts {
         tariff,
-        lists,
+        lists: PhaseLists::empty(),
         burst,
     })
 }

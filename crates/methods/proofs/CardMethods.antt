@@ -23,7 +23,7 @@ use Rattle.card_demand.specs.Card.{tick_row, group, Stepped, card_step}
 use Rattle.card_demand.specs.Lending.{replied, group_reply}
 use Rattle.card_demand.proofs.Lending.{card_steps}
 use Rattle.methods.specs.CardMethods.{card_of, CardMethods}
-use Rattle.methods.proofs.Methods.{told}
+use Rattle.methods.proofs.Methods.{both, told}
 
 -- a tick by its answer and the row that it leaves
 tick-step : (d : Dispatcher) (row row' others : List Line) (r : Dispatched) → r ≡ dispatch_of d row → row' ≡ row_of d row →
@@ -50,6 +50,6 @@ module _ {M : Type 1} {𝓤 : Ura M} (𝓛 : Logic 𝓤) (𝓜 : Model 𝓤 𝓛
   card-methods =
       record {
         new = told 𝓛 𝓜 𝓡 (λ κs a. (D.new.clauses 𝓛 𝓜.mem 𝓡.returns κs a).ensures tt) (D_code.new.Met.met 𝓤 𝓛 𝓜 𝓡) (λ _ _ _ _. fact_mono 𝓤 _ _ (λ e ms. sym e));
-        ticks = told 𝓛 𝓜 𝓡 (λ κs a. (D.tick.clauses 𝓛 𝓜.mem 𝓡.returns κs a).ensures tt) (D_code.tick.Met.met 𝓤 𝓛 𝓜 𝓡) (λ _ _ _ _. fact_mono 𝓤 _ _ (λ (e, f) others. tick-step _ _ _ others _ e f));
-        groups = told 𝓛 𝓜 𝓡 (λ κs a. (G.clauses 𝓛 𝓜.mem 𝓡.returns κs a).ensures tt) (G_met.met 𝓤 𝓛 𝓜 𝓡) (λ _ _ _ _. fact_mono 𝓤 _ _ (λ (e, f) others d. group-step d _ _ others _ _ _ e f));
+        ticks = told 𝓛 𝓜 𝓡 (λ κs a. (D.tick.clauses 𝓛 𝓜.mem 𝓡.returns κs a).ensures tt) (D_code.tick.Met.met 𝓤 𝓛 𝓜 𝓡) (λ _ _ _ _. both 𝓤 _ (λ e f others. tick-step _ _ _ others _ e f));
+        groups = told 𝓛 𝓜 𝓡 (λ κs a. (G.clauses 𝓛 𝓜.mem 𝓡.returns κs a).ensures tt) (G_met.met 𝓤 𝓛 𝓜 𝓡) (λ _ _ _ _. both 𝓤 _ (λ e f others d. group-step d _ _ others _ _ _ e f));
       }

@@ -6,11 +6,11 @@ use Prim.Native.Nat.{ℕ}
 use types.Logic.{Logic}
 use borrow.Table.Steps.{cases}
 use seplogic.Ra.Ura.{Ura}
-use base.Logic.{SProp, ent}
+use base.Logic.{SProp, ent, sep, fst∗, snd∗}
 use prog.Model.{Model}
 use prog.Wired.{Code}
 use mir.Syntax.{Callee}
-use contract.Monad.{fact, fact_mono}
+use contract.Monad.{fact, fact_i, fact_mono, fact_use}
 use contract.Lifetimes.{Lfts}
 use contract.Running.{Running}
 use denote.Ask.Run.{routine_mono}
@@ -38,6 +38,13 @@ lent-step : (l : Line) {r : Tick} {l' : Line} → r ≡ (tick_of l).tick → l' 
 unfolding step
 lent-step l e f = rw (e, f)
 
+-- what follows from two clauses
+pub both : {M : Type 1} (𝓤 : Ura M) {A B : Type 0} (C : Type 0) → (A → B → C) → ent 𝓤 (sep 𝓤 (fact 𝓤 A) (fact 𝓤 B)) (fact 𝓤 C)
+both 𝓤 {A} {B} C f =
+    let P : SProp 𝓤 = sep 𝓤 (fact 𝓤 A) (fact 𝓤 B) in
+    fact_use 𝓤 {P = P} {Q = fact 𝓤 C} A (fst∗ 𝓤 (fact 𝓤 A) (fact 𝓤 B)) (λ a.
+    fact_use 𝓤 {P = P} {Q = fact 𝓤 C} B (snd∗ 𝓤 (fact 𝓤 A) (fact 𝓤 B)) (λ b. fact_i 𝓤 C P (f a b)))
+
 module _ {M : Type 1} {𝓤 : Ura M} (𝓛 : Logic 𝓤) (𝓜 : Model 𝓤 𝓛.H) (𝓡 : Running 𝓤 𝓛.H 𝓜) where
   -- by the contract c that it is proved to meet
   open 𝓛 use {H}
@@ -53,11 +60,8 @@ module _ {M : Type 1} {𝓤 : Ura M} (𝓛 : Logic 𝓤) (𝓜 : Model 𝓤 𝓛
       record {
         make = told (λ κs a. (L.make.clauses 𝓛 𝓜.mem 𝓡.returns κs a).ensures tt) (L_code.make.Met.met 𝓤 𝓛 𝓜 𝓡) (λ _ a _ _. fact_mono 𝓤 _ _ (λ e. (rw e (taken a.0 a.1.0 a.1.1.0), λ cs. rw e)));
         describes = told (λ κs a. (L.describe.clauses 𝓛 𝓜.mem 𝓡.returns κs a).ensures tt) (L_code.describe.Met.met 𝓤 𝓛 𝓜 𝓡) (λ _ _ _ _. fact_mono 𝓤 _ _ (λ e. rw e));
-        describes_text = told (λ κs a. (L.describe_text.clauses 𝓛 𝓜.mem 𝓡.returns κs a).ensures tt) (L_code.describe_text.Met.met 𝓤 𝓛 𝓜 𝓡) (λ _ _ _ _. fact_mono 𝓤 _ _ (λ e. rw e));
         asks = told (λ κs a. (L.ask.clauses 𝓛 𝓜.mem 𝓡.returns κs a).ensures tt) (L_code.ask.Met.met 𝓤 𝓛 𝓜 𝓡) (λ _ _ _ _. fact_mono 𝓤 _ _ (λ e. rw e));
-        asks_text = told (λ κs a. (L.ask_text.clauses 𝓛 𝓜.mem 𝓡.returns κs a).ensures tt) (L_code.ask_text.Met.met 𝓤 𝓛 𝓜 𝓡) (λ _ _ _ _. fact_mono 𝓤 _ _ (λ e. rw e));
         commits = told (λ κs a. (L.commit.clauses 𝓛 𝓜.mem 𝓡.returns κs a).ensures tt) (L_code.commit.Met.met 𝓤 𝓛 𝓜 𝓡) (λ _ _ _ _. fact_mono 𝓤 _ _ (λ e. rw e));
-        commits_text = told (λ κs a. (L.commit_text.clauses 𝓛 𝓜.mem 𝓡.returns κs a).ensures tt) (L_code.commit_text.Met.met 𝓤 𝓛 𝓜 𝓡) (λ _ _ _ _. fact_mono 𝓤 _ _ (λ e. rw e));
         hooks = told (λ κs a. (L.hook.clauses 𝓛 𝓜.mem 𝓡.returns κs a).ensures tt) (L_code.hook.Met.met 𝓤 𝓛 𝓜 𝓡) (λ _ _ _ _. fact_mono 𝓤 _ _ (λ e. rw e));
         periods = told (λ κs a. (L.set_period.clauses 𝓛 𝓜.mem 𝓡.returns κs a).ensures tt) (L_code.set_period.Met.met 𝓤 𝓛 𝓜 𝓡) (λ _ _ _ _. fact_mono 𝓤 _ _ (λ e. rw e));
         clears = told (λ κs a. (L.clear_period.clauses 𝓛 𝓜.mem 𝓡.returns κs a).ensures tt) (L_code.clear_period.Met.met 𝓤 𝓛 𝓜 𝓡) (λ _ _ _ _. fact_mono 𝓤 _ _ (λ e. rw e));

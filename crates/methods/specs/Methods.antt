@@ -1,5 +1,5 @@
 -- What each public method of a line does, in every model of the machine: the step that a list of calls takes.
-use Rattle.std.specs.Prelude.{◌≡◌, cond, List, []}
+use Rattle.std.specs.Prelude.{◌≡◌, cond, List, [], None}
 use seplogic.Ra.Ura.{Ura}
 use base.Logic.{SProp, emp}
 use prog.Model.{Model}
@@ -12,17 +12,16 @@ use contract.Running.{Running}
 use denote.Triple.Entry.{Args, Res}
 use denote.Triple.Spec.{Meets}
 use denote.Triple.Clauses.{Ended, AtExit, Clauses, closing}
-use Rattle.phase_lists.specs.Lists.{lists_of}
-use Rattle.grammar.specs.Meaning.{descriptor, reading_of}
+use Rattle.line.specs.Lines.{meant_by}
 use Rattle.line.specs.contracts.Line as L
 use Rattle.line.proofs.Line as L_code
 use Rattle.lent.specs.contracts.tick_in_place as lent
 use Rattle.lent.proofs.tick_in_place.Symbol as lent_code
 use Rattle.descriptor.specs.Refusals.{sound_configuration}
-use Rattle.demand.specs.Calls.{Call, ask, hook, period, no_period, audit, tick}
+use Rattle.demand.specs.Calls.{Call, describe, ask, hook, period, no_period, audit, tick}
 use Rattle.demand.specs.Calls.{Answer, accepted, refused, ticked}
 use Rattle.demand.specs.Machine.{verdict_told, outcome, answered, ticketed, audited, moved, step, entry_for}
-use Rattle.demand.specs.Machine.{parts, text, commit, past, after_calls, entries, history}
+use Rattle.demand.specs.Machine.{commit, past, after_calls, entries, history}
 
 -- of the values passed to a call, its result, and the values passed as they are after it
 abbrev pub Of {ℓ} : Ended → Type ℓ → Type ℓ
@@ -49,23 +48,11 @@ module _ {M : Type 1} {𝓤 : Ura M} (𝓛 : Logic 𝓤) (𝓜 : Model 𝓤 𝓛
         (verdict_told r.verdict ≡ cond (sound_configuration D G) (accepted 0) (refused 1)) ×
         ((cs : List Call) → history D G clock cs ≡ entries (after_calls (past [] r.line) cs)))
     pub describes : Does L.describe.ended L_code.describe.Symbol.name L_code.describe.Symbol.code
-        (λ _ (l, (t, (pri, (pcx, (repx, (pcn, (repn, (ci, (pd, (b, _)))))))))) r _.
-        let ls = lists_of pri.now pcx.now repx.now pcn.now repn.now ci.now pd.now in
-        step l (parts t ls b) ≡ answered r)
-    pub describes_text : Does L.describe_text.ended L_code.describe_text.Symbol.name L_code.describe_text.Symbol.code
-        (λ _ (l, (bytes, _)) r _. step l (text bytes.now) ≡ answered r)
+        (λ _ (l, (d, _)) r _. step l (describe None (meant_by d)) ≡ answered r)
     pub asks : Does L.ask.ended L_code.ask.Symbol.name L_code.ask.Symbol.code
-        (λ _ (l, (t, (pri, (pcx, (repx, (pcn, (repn, (ci, (pd, (b, _)))))))))) r _.
-        let ls = lists_of pri.now pcx.now repx.now pcn.now repn.now ci.now pd.now in
-        step l (ask (descriptor t ls b)) ≡ ticketed r)
-    pub asks_text : Does L.ask_text.ended L_code.ask_text.Symbol.name L_code.ask_text.Symbol.code
-        (λ _ (l, (bytes, _)) r _. step l (ask (reading_of bytes.now)) ≡ ticketed r)
+        (λ _ (l, (d, _)) r _. step l (ask (meant_by d)) ≡ ticketed r)
     pub commits : Does L.commit.ended L_code.commit.Symbol.name L_code.commit.Symbol.code
-        (λ _ (l, (n, (t, (pri, (pcx, (repx, (pcn, (repn, (ci, (pd, (b, _))))))))))) r _.
-        let ls = lists_of pri.now pcx.now repx.now pcn.now repn.now ci.now pd.now in
-        step l (commit n (descriptor t ls b)) ≡ answered r)
-    pub commits_text : Does L.commit_text.ended L_code.commit_text.Symbol.name L_code.commit_text.Symbol.code
-        (λ _ (l, (n, (bytes, _))) r _. step l (commit n (reading_of bytes.now)) ≡ answered r)
+        (λ _ (l, (n, (d, _))) r _. step l (commit n (meant_by d)) ≡ answered r)
     pub hooks : Does L.hook.ended L_code.hook.Symbol.name L_code.hook.Symbol.code
         (λ _ (l, (k, _)) r _. step l (hook k) ≡ answered r)
     pub periods : Does L.set_period.ended L_code.set_period.Symbol.name L_code.set_period.Symbol.code

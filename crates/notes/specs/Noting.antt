@@ -1,9 +1,13 @@
 -- What is noted of a text, piece by piece: faults, and the values of each name.
 use Rattle.std.specs.Prelude.{ℕ, ◌+◌, ◌*◌, Bool, true, false, cond, not, ◌||◌, List, [], ◌∷◌, eqb, ltb, get_or, set}
-use Rattle.std.specs.Prelude.{replicate}
+use Rattle.std.specs.Prelude.{replicate, Option, Some, None}
 use Rattle.grammar.specs.Grammar.{bytes}
 use Rattle.scanner.specs.Codes.{code_of}
 use Rattle.grammar.specs.Meaning.{Known, ◌↣◌, unknown, known_signals, items_of, keep_slot, is_list}
+use Rattle.scanner.specs.declared.places.Place.{Place}
+use Rattle.scanner.specs.declared.places.Place.TheVariants.{ToName, ToValue}
+use Rattle.scanner.specs.declared.Token.{Token}
+use Rattle.scanner.specs.declared.Token.TheVariants.{Name, Number, Ka, From}
 use Rattle.notes.specs.declared.Notes.{Notes}
 
 -- ---- names
@@ -83,9 +87,25 @@ single_of n v = value_of (marked_of n (is_list n.slot)) v
 abbrev pub list_of : Notes → Notes
 list_of n = marked_of n (not (is_list n.slot))
 
--- what a piece of a kind says at its place: a name 0, a number 1, KA 4, an opening bracket 7; any other says nothing
-unfoldable pub note_of : Notes → ℕ → ℕ → ℕ → Notes
-note_of n place kind v =
-    cond (eqb kind 0) (cond (eqb place 4) (signal_of n v) (item_of n v))
-    (cond (eqb kind 1) (cond (eqb place 8) (single_of n v) (value_of n v))
-    (cond (eqb kind 4) (keep_of n) (cond (eqb kind 7) (list_of n) n)))
+-- a name at its place: a signal's, or an item's
+abbrev pub name_at : Place → Notes → ℕ → Notes
+name_at ToName n c = signal_of n c
+name_at p n c = item_of n c
+
+-- a number at its place: a value, or one of a list
+abbrev pub number_at : Place → Notes → ℕ → Notes
+number_at ToValue n v = single_of n v
+number_at p n v = value_of n v
+
+-- what a piece says at its place: a name, a number, KA, an opening bracket; any other says nothing
+unfoldable pub note_of : Notes → Place → Token → Notes
+note_of n p (Name c) = name_at p n c
+note_of n p (Number v) = number_at p n v
+note_of n p Ka = keep_of n
+note_of n p From = list_of n
+note_of n p t = n
+
+-- a piece that ended, if one did
+abbrev pub noted : Notes → Place → Option Token → Notes
+noted n p None = n
+noted n p (Some t) = note_of n p t

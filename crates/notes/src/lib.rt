@@ -6,10 +6,7 @@ ghost use Rattle.notes.specs.Noting.{no_notes, has_in, marked_of, touch_of, stor
 
 mod names;
 
-// The places before a signal's name, and before a value.
-const TO_SIGNAL: u8 = 4;
-
-const TO_VALUE: u8 = 8;
+use scanner::{Place, Token};
 
 // Whether a fault was met; the slots of the signal and of the name that is being read; how many values each of the 18
 // slots has, and nine places for the values of each.
@@ -100,27 +97,27 @@ impl Notes {
         self.store(1);
     }
 
-    // Notes what a piece of a kind says at its place.
+    // Notes what a piece says at its place.
     #[tactic(auto, unfolding(crate::specs::Noting::note_of))]
-    pub fn note(&mut self, place: u8, kind: u8, v: u64)
-        ensures { self.new ≡ note_of self.old place kind v }
+    pub fn note(&mut self, place: Place, token: Token)
+        ensures { self.new ≡ note_of self.old place token }
     {
-        match kind {
-            scanner::NAME => {
-                if place == TO_SIGNAL {
-                    self.signal(v);
+        match token {
+            Token::Name(code) => {
+                if place == Place::ToName {
+                    self.signal(code);
                 } else {
-                    self.touch(names::item_slot(self.signal, v));
+                    self.touch(names::item_slot(self.signal, code));
                 }
             }
-            scanner::NUMBER => {
-                if place == TO_VALUE {
+            Token::Number(v) => {
+                if place == Place::ToValue {
                     self.mark(names::is_list(self.slot));
                 }
                 self.value(v);
             }
-            scanner::KA => self.keep(),
-            scanner::LIST => self.mark(!names::is_list(self.slot)),
+            Token::Ka => self.keep(),
+            Token::From => self.mark(!names::is_list(self.slot)),
             _ => {}
         }
     }

@@ -59,9 +59,9 @@ met_next S ls i = rw (add-one i, carried-more S (first_phases ls i) (phase_of ls
 -- and is stored where it is one of eight
 pub stored_next : (S : ℕ) (ls : Lists) (i : ℕ) → i < 8
     → record {
-        carry = met_by S (carried S (first_phases ls i)) (phase_of ls i);
-        phases = set (eight_of (first_phases ls (min i 8))) i (phase_of ls i);
-      } ≡ first_table S ls (i + 1)
+      carry = met_by S (carried S (first_phases ls i)) (phase_of ls i);
+      phases = set (eight_of (first_phases ls (min i 8))) i (phase_of ls i);
+    } ≡ first_table S ls (i + 1)
 unfolding first_phases
 stored_next S ls i room =
     let here : min i 8 ≡ i = omega arith in
@@ -70,9 +70,9 @@ stored_next S ls i room =
 
 pub stored_past : (S : ℕ) (ls : Lists) (i : ℕ) → 8 ≤ i
     → record {
-        carry = met_by S (carried S (first_phases ls i)) (phase_of ls i);
-        phases = eight_of (first_phases ls (min i 8));
-      } ≡ first_table S ls (i + 1)
+      carry = met_by S (carried S (first_phases ls i)) (phase_of ls i);
+      phases = eight_of (first_phases ls (min i 8));
+    } ≡ first_table S ls (i + 1)
 stored_past S ls i past = let same : min i 8 ≡ min (i + 1) 8 = omega arith in rw (met_next S ls i, same)
 
 -- sound lists: all their phases are counted and stored

@@ -2,7 +2,7 @@
 #![tactic(auto)]
 
 ghost use Rattle.std.specs.Prelude.{◌≡◌, get_or};
-ghost use Rattle.phase_lists.specs.Lists.{phase_of, lists_in};
+ghost use Rattle.phase_lists.specs.Lists.{phase_of, lists_in, no_lists};
 ghost use Rattle.phase_lists.specs.Tables.{no_table, phase_count, table_of};
 
 use rules::Carry;
@@ -44,6 +44,23 @@ fn number_at(list: &[u32], i: usize) -> u32
     ensures { result ≡ get_or list.now i 0 }
 {
     list.get(i).copied().unwrap_or(0)
+}
+
+impl PhaseLists<'static> {
+    // Seven lists without a number, for a descriptor that is not phased.
+    pub fn empty() -> PhaseLists<'static>
+        ensures { lists_in result ≡ no_lists }
+    {
+        PhaseLists {
+            pri: &[],
+            pcx: &[],
+            repx: &[],
+            pcn: &[],
+            repn: &[],
+            ci: &[],
+            pd: &[],
+        }
+    }
 }
 
 impl PhaseLists<'_> {

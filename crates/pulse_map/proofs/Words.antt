@@ -1,19 +1,20 @@
 -- A list of entries as a word: what a shift, a mask and a count of ones make of it.
 use mathlib.Core.Path.{◌≡◌, refl, sym, ap, ap₂, ◌∙◌}
 use mathlib.Core.List.{List, [], ◌∷◌}
-use Prim.Native.Nat.{ℕ, zero, suc, ◌+◌, ◌-◌, ◌*◌, ◌/◌, ◌%◌, ◌^◌, ◌≤◌, ◌<◌}
+use Prim.Native.Nat.{ℕ, zero, suc, ◌+◌, ◌-◌, ◌*◌, ◌/◌, ◌%◌, ◌^◌, min, ◌≤◌, ◌<◌}
 use native.Mathlib.Nat.{zero-div, zero-mod, div-div-eq-div-mul, pow-suc, mul_comm, div-one, mod-one, one-mul, mod-eq_of_lt, lt_of_lt_of_le}
 use native.Mathlib.Numerals.{add-one}
 use native.Mathlib.Omega.{arith}
 use lib.Pow.{mod-pow-add, pow_pos, pow_mono, pow-lt}
 use lib.Count.{ones, ones_step}
 use lib.Bits.{bit_and, and_mask}
-use lib.ListN.{get_or, take, drop}
-use lib.Seq.{get_or-take, get_or-drop, take-take, take-add}
-use Rattle.pulse_map.specs.Map.{Entry, N, bit_of, xs_in}
-use Rattle.pulse_map.specs.Words.{word_of, part}
-use Rattle.pulse_map.proofs.Choice.{bit_le}
-use Rattle.pulse_map.proofs.Laws.{xs_append}
+use lib.ListN.{length, get_or, take, drop}
+use lib.Seq.{get_or-take, get_or-drop, take_all, take-take, take-add}
+use Rattle.std.proofs.lemmas.List.{drop_all}
+use Rattle.pulse_map.specs.Map.{Entry, N, map_of, bit_of, xs_in}
+use Rattle.pulse_map.specs.Words.{word_of, part, hundred_word, ten_word, words_of}
+use Rattle.pulse_map.proofs.Choice.{by_order, bit_le}
+use Rattle.pulse_map.proofs.Laws.{xs_append, map-length}
 
 half : (e : Entry) (w : ℕ) → (bit_of e + 2 * w) / 2 ≡ w
 half e w = omega (arith, bit_le e)
@@ -78,6 +79,39 @@ both_xs l k p q =
     let rest : k - 64 ≤ 64 = omega arith in
     ap₂ (λ (a b : ℕ). a + b) (first_xs l 64 (omega arith)) (low_xs (take 64 (drop 64 l)) (k - 64) ∙ ap xs_in (take-take (k - 64) 64 (drop 64 l) rest))
     ∙ rw (← xs_append, ← take-add, whole)
+
+-- element i of a map of up to 128 elements is in its two words
+word_at : (l : List Entry) (h : ℕ) → h < 2 → get_or (words_of l) h 0 ≡ word_of (part h l)
+word_at l zero h = refl
+word_at l (suc zero) h = refl
+word_at l (suc (suc n)) h = absurd (omega arith)
+
+pub words-bit : (l : List Entry) (i : ℕ) → i < 128 → bit_and (get_or (words_of l) (i / 64) 0 / 2 ^ (i % 64)) 1 ≡ bit_of (get_or l i N)
+words-bit l i h = rw (word_at l (i / 64) (omega arith)) (part-bit l i)
+
+-- and so are the X's of its first k elements
+pub words_xs : (l : List Entry) (k : ℕ) → k ≤ 128 → ones (word_of (part 0 l) % 2 ^ min k 64) + ones (word_of (part 1 l) % 2 ^ (k - 64)) ≡ xs_in (take k l)
+unfolding xs_in
+words_xs l k h =
+    by_order k 64
+    (λ le.
+    let low : min k 64 ≡ k = omega arith in
+    let rest : k - 64 ≡ 0 = omega arith in
+    let none : ones (word_of (part 1 l) % 2 ^ 0) ≡ 0 = low_xs (part 1 l) 0 in
+    rw (low, rest) (omega (arith, first_xs l k le, none)))
+    (λ gt. let low : min k 64 ≡ 64 = omega arith in rw low (both_xs l k (omega arith) h))
+
+-- the words of the two tables are those of their maps
+pub hundred-words : (x n : ℕ) → x + n ≡ 100 → hundred_word x 0 ∷ hundred_word x 1 ∷ [] ≡ words_of (map_of x n)
+unfolding hundred_word
+hundred-words x n e = let rest : 100 - x ≡ n = omega arith in rw rest refl
+
+pub ten-words : (x n : ℕ) → x + n ≡ 10 → ten_word x ∷ 0 ∷ [] ≡ words_of (map_of x n)
+unfolding ten_word part word_of
+ten-words x n e =
+    let rest : 10 - x ≡ n = omega arith in
+    let short : length (map_of x n) ≤ 64 = omega (arith, map-length x n) in
+    rw (rest, take_all 64 (map_of x n) short, drop_all 64 (map_of x n) short) refl
 
 -- ---- masks
 

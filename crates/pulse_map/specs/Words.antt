@@ -18,3 +18,7 @@ hundred_word r h = word_of (part h (map_of r (100 - r)))
 -- the word of row r of the maps of ten elements
 unfoldable pub ten_word : ℕ → ℕ
 ten_word r = word_of (map_of r (10 - r))
+
+-- the two words of a map of up to 128 elements
+abbrev pub words_of : List Entry → List ℕ
+words_of l = word_of (part 0 l) ∷ word_of (part 1 l) ∷ []

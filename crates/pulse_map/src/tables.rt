@@ -1,8 +1,10 @@
-// The constant words of the maps of a hundred and of ten elements, and what is read from them.
-ghost use Rattle.std.specs.Prelude.{◌≡◌, ◌-◌, ◌%◌, ◌^◌, ◌<◌, ◌≤◌, get_or, take};
+// The constant words of the maps of a hundred and of ten elements, and a map's elements and X's, read from them.
+ghost use Rattle.std.specs.Prelude.{◌≡◌, ◌+◌, ◌%◌, ◌^◌, ◌<◌, ◌≤◌, get_or, take, IfSome};
 ghost use Rattle.std.specs.Int.Count.{ones};
 ghost use Rattle.pulse_map.specs.Map.{map_of, bit_of, xs_in, N};
-ghost use Rattle.pulse_map.specs.Words.{hundred_word, ten_word};
+ghost use Rattle.pulse_map.specs.Words.{hundred_word, ten_word, words_of};
+
+use super::map::Map;
 
 // Row r, the map of r X's and 100 - r N's, in two words: element i in bit i mod 64 of word i div 64, 1 for X.
 const HUNDREDS: [u64; 202] = [
@@ -231,54 +233,50 @@ fn ten_word(r: usize) -> u16
 }
 
 // The number of ones in the k low bits of a word.
-fn low_ones(w: u64, k: u64) -> u32
-    ensures { result ≡ ones (w % 2 ^ k) }
+#[tactic(auto, using(crate::proofs::Words::and_low, crate::proofs::Words::above))]
+fn low_ones(word: u64, k: u64) -> u64
+    ensures { result ≡ ones (word % 2 ^ k) }
 {
     if k < 64 {
-        u64::count_ones(w & ((1u64 << k) - 1))
+        (word & ((1 << k) - 1)).count_ones().into()
     } else {
-        u64::count_ones(w)
+        word.count_ones().into()
     }
 }
 
-// Element i of row r of a hundred, 1 for X.
-pub(crate) fn hundred_bit(r: u64, i: u64) -> u64
-    requires r_bound { r ≤ 100 }
-    requires i_bound { i < 100 }
-    ensures { result ≡ bit_of (get_or (map_of r (100 - r)) i N) }
-{
-    (hundred_word(r as usize, (i / 64) as usize) >> (i % 64)) & 1
-}
-
-// Element i of row r of ten, 1 for X.
-pub(crate) fn ten_bit(r: u64, i: u64) -> u64
-    requires r_bound { r ≤ 10 }
-    requires i_bound { i < 10 }
-    ensures { result ≡ bit_of (get_or (map_of r (10 - r)) i N) }
-{
-    (ten_word(r as usize) as u64 >> i) & 1
-}
-
-// The X's among the first k elements of row r of a hundred.
-pub(crate) fn hundred_xs(r: u64, k: u64) -> u64
-    requires r_bound { r ≤ 100 }
-    requires k_bound { k ≤ 100 }
-    ensures { result ≡ xs_in (take k (map_of r (100 - r))) }
-{
-    let row = r as usize;
-    let first = hundred_word(row, 0);
-    if k < 64 {
-        return low_ones(first, k) as u64;
+impl Map {
+    // The words of the map, where there is a table of its length.
+    fn words(self) -> Option<[u64; 2]>
+        ensures { IfSome result (λ words. words ≡ words_of (map_of self.xs self.ns)) }
+    {
+        let row = self.xs as usize;
+        match self.xs + self.ns {
+            100 => Some([hundred_word(row, 0), hundred_word(row, 1)]),
+            10 => Some([ten_word(row).into(), 0]),
+            _ => None,
+        }
     }
-    let second = hundred_word(row, 1);
-    low_ones(first, 64) as u64 + low_ones(second, k - 64) as u64
-}
 
-// The X's among the first k elements of row r of ten.
-pub(crate) fn ten_xs(r: u64, k: u64) -> u64
-    requires r_bound { r ≤ 10 }
-    requires k_bound { k ≤ 10 }
-    ensures { result ≡ xs_in (take k (map_of r (10 - r))) }
-{
-    low_ones(ten_word(r as usize) as u64, k) as u64
+    // Element i, 1 for X: bit i mod 64 of word i div 64 where there is a table, else what the X's grow by from i
+    // elements to i + 1.
+    pub(crate) fn bit(self, i: u64) -> u64
+        requires { i < self.xs + self.ns }
+        ensures { result ≡ bit_of (get_or (map_of self.xs self.ns) i N) }
+    {
+        match self.words() {
+            Some(words) => (words[(i / 64) as usize] >> (i % 64)) & 1,
+            None => self.interleaved(i + 1) - self.interleaved(i),
+        }
+    }
+
+    // The X's among the first k elements: the ones in those bits where there is a table, else worked out.
+    pub(crate) fn xs_before(self, k: u64) -> u64
+        requires { k ≤ self.xs + self.ns }
+        ensures { result ≡ xs_in (take k (map_of self.xs self.ns)) }
+    {
+        match self.words() {
+            Some(words) => low_ones(words[0], k.min(64)) + low_ones(words[1], k.saturating_sub(64)),
+            None => self.interleaved(k),
+        }
+    }
 }

@@ -1,129 +1,183 @@
 -- The reader as the code has it, byte by byte: the place in the grammar, the piece that is being read, and what ended.
-use Rattle.std.specs.Prelude.{ℕ, ◌+◌, Bool, true, cond, ◌||◌, ◌&&◌, List, [], ◌∷◌, eqb, ltb, get_or}
-use Rattle.grammar.specs.Grammar.{bytes}
-use Rattle.grammar.specs.Reader.{Class, small, digit, blank, slash, S, G, K, A, other, mark, class_of, kind_of}
-use Rattle.scanner.specs.Codes.{next_letter, next_digit, code_of}
+use Rattle.std.specs.Prelude.{ℕ, ◌+◌, Bool, true, false, List, [], ◌∷◌, ◌==◌, nat_lt, if◌then◌else◌, Option, Some, None}
+use Rattle.std.specs.Option.{option_or}
+use Rattle.grammar.specs.Grammar.{bytes, Piece, SG, amet/, KA, opens, shuts, from, to, comma, equals, name, number}
+use Rattle.grammar.specs.Reader.{Class, small, digit, blank, slash, S, G, K, A, other, mark, class_of}
+use Rattle.scanner.specs.Codes.{next_letter, next_digit, code_of, number_of}
+use Rattle.scanner.specs.declared.Token.{Token}
+use Rattle.scanner.specs.declared.Token.TheVariants.{Name, Number, Sg, Amet, Ka, Opens, Shuts, From, To, Comma, Equals}
+use Rattle.scanner.specs.declared.Mode.{Mode}
+use Rattle.scanner.specs.declared.Mode.TheVariants.{Fresh, Between, InSg, InKa, InName, InNumber}
+use Rattle.scanner.specs.declared.places.Place.{Place}
+use Rattle.scanner.specs.declared.places.Place.TheVariants.{Nothing, Begun, ToFirstSignal, ToSignal, ToName, Named}
+use Rattle.scanner.specs.declared.places.Place.TheVariants.{ToItem, ItemNamed, ToValue, ToNumber, ItemRead, NumberRead}
+use Rattle.scanner.specs.declared.places.Place.TheVariants.{SignalRead, Whole, Wrong}
 use Rattle.scanner.specs.declared.Scanner.{Scanner}
 use Rattle.scanner.specs.declared.Turn.{Turn}
+
+-- ---- pieces as the code tells them: a name by its code, a number by its value
+
+abbrev pub token_of : Piece → Token
+token_of (name w) = Name (code_of w)
+token_of (number w) = Number (number_of w)
+token_of SG = Sg
+token_of amet/ = Amet
+token_of KA = Ka
+token_of opens = Opens
+token_of shuts = Shuts
+token_of from = From
+token_of to = To
+token_of comma = Comma
+token_of equals = Equals
+
+-- their kinds, as the grammar numbers them
+abbrev pub kind_no : Token → ℕ
+kind_no (Name c) = 0
+kind_no (Number v) = 1
+kind_no Sg = 2
+kind_no Amet = 3
+kind_no Ka = 4
+kind_no Opens = 5
+kind_no Shuts = 6
+kind_no From = 7
+kind_no To = 8
+kind_no Comma = 9
+kind_no Equals = 10
 
 -- ---- places
 
 -- a kind of piece, and the place after it
 pub data Edge : Type 0 where
-  ◌⇢◌ : (kind place : ℕ) → Edge
+  ◌⇢◌ : (kind : ℕ) (place : Place) → Edge
 
 infix 20 ◌⇢◌
--- what may come at each place, from 0 on
-abbrev pub rows : List (List Edge)
-rows =
-    ((2 ⇢ 1) ∷ [])
-    ∷ ((5 ⇢ 2) ∷ [])
-    ∷ ((3 ⇢ 4) ∷ (6 ⇢ 13) ∷ [])
-    ∷ ((3 ⇢ 4) ∷ [])
-    ∷ ((0 ⇢ 5) ∷ [])
-    ∷ ((5 ⇢ 6) ∷ (9 ⇢ 3) ∷ (6 ⇢ 13) ∷ [])
-    ∷ ((4 ⇢ 10) ∷ (0 ⇢ 7) ∷ [])
-    ∷ ((10 ⇢ 8) ∷ [])
-    ∷ ((1 ⇢ 10) ∷ (7 ⇢ 9) ∷ [])
-    ∷ ((1 ⇢ 11) ∷ [])
-    ∷ ((9 ⇢ 6) ∷ (6 ⇢ 12) ∷ [])
-    ∷ ((9 ⇢ 9) ∷ (8 ⇢ 10) ∷ [])
-    ∷ ((9 ⇢ 3) ∷ (6 ⇢ 13) ∷ [])
-    ∷ []
+-- what may come at each place
+abbrev pub row_of : Place → List Edge
+row_of Nothing = (2 ⇢ Begun) ∷ []
+row_of Begun = (5 ⇢ ToFirstSignal) ∷ []
+row_of ToFirstSignal = (3 ⇢ ToName) ∷ (6 ⇢ Whole) ∷ []
+row_of ToSignal = (3 ⇢ ToName) ∷ []
+row_of ToName = (0 ⇢ Named) ∷ []
+row_of Named = (5 ⇢ ToItem) ∷ (9 ⇢ ToSignal) ∷ (6 ⇢ Whole) ∷ []
+row_of ToItem = (4 ⇢ ItemRead) ∷ (0 ⇢ ItemNamed) ∷ []
+row_of ItemNamed = (10 ⇢ ToValue) ∷ []
+row_of ToValue = (1 ⇢ ItemRead) ∷ (7 ⇢ ToNumber) ∷ []
+row_of ToNumber = (1 ⇢ NumberRead) ∷ []
+row_of ItemRead = (9 ⇢ ToItem) ∷ (6 ⇢ SignalRead) ∷ []
+row_of NumberRead = (9 ⇢ ToNumber) ∷ (8 ⇢ ItemRead) ∷ []
+row_of SignalRead = (9 ⇢ ToSignal) ∷ (6 ⇢ Whole) ∷ []
+row_of Whole = []
+row_of Wrong = []
 
-abbrev pub target : ℕ → List Edge → ℕ
-target k [] = 14
-target k ((j ⇢ p) ∷ es) = cond (eqb k j) p (target k es)
+abbrev pub target : ℕ → List Edge → Place
+target k [] = Wrong
+target k ((j ⇢ p) ∷ es) = if k == j then p else target k es
 
--- the place after a piece; 14 where it may not come
-abbrev pub next_of : ℕ → ℕ → ℕ
-next_of p k = target k (get_or rows p [])
-
--- the kind of piece that a byte is, begins or ends
-abbrev pub class_no : Class → ℕ
-class_no (mark p) = kind_of p
-class_no small = 0
-class_no digit = 1
-class_no G = 2
-class_no slash = 3
-class_no A = 4
-class_no blank = 11
-class_no S = 12
-class_no K = 13
-class_no other = 14
-
--- ---- bytes. Modes: nothing read 0, between pieces 1, S read 2, K read 3, in a name 4, in a number 5.
-
-abbrev pub fresh_scanner : Scanner
-fresh_scanner = record { mode = 0; place = 0; digits = 0; code = 0 }
-
--- all bytes are a text
-abbrev pub is_whole : Scanner → Bool
-is_whole s = eqb s.mode 1 && eqb s.place 13
-
--- the place where the piece ends here
-abbrev pub closed_of : Scanner → ℕ
-closed_of s =
-    cond (eqb s.mode 4) (next_of s.place 0)
-    (cond (eqb s.mode 5) (next_of s.place 1) (cond (eqb s.mode 2 || eqb s.mode 3) 14 s.place))
-
--- the kind of piece that ends here, or k where none does
-abbrev pub ended_or : Scanner → ℕ → ℕ
-ended_or s k = cond (eqb s.mode 4) 0 (cond (eqb s.mode 5) 1 k)
-
--- with a piece of kind k noted, and then in a mode
-abbrev pub turn_to : Scanner → ℕ → ℕ → ℕ → ℕ → ℕ → Turn
-turn_to s k mode place digits code =
-    record {
-      scanner = record { mode = mode; place = place; digits = digits; code = code };
-      place = s.place;
-      kind = k;
-      value = s.code;
-    }
-
-abbrev pub lost_turn : Scanner → Turn
-lost_turn s = turn_to s 14 1 14 0 0
-
-abbrev pub begin_of : Scanner → ℕ → ℕ → ℕ → Turn
-begin_of s mode digits code = turn_to s (ended_or s 14) mode (closed_of s) digits code
-
-abbrev pub letter_of : Scanner → ℕ → Turn
-letter_of s b =
-    cond (eqb s.mode 4) (turn_to s 14 4 s.place 0 (next_letter s.code b)) (begin_of s 4 0 (next_letter 0 b))
-
-abbrev pub digit_of : Scanner → ℕ → Turn
-digit_of s b =
-    cond (eqb s.mode 5)
-    (cond (ltb s.digits 10) (turn_to s 14 5 s.place (s.digits + 1) (next_digit s.code b)) (lost_turn s))
-    (begin_of s 5 1 (next_digit 0 b))
+-- the place after a piece; wrong where it may not come
+abbrev pub next_of : Place → Token → Place
+next_of p t = target (kind_no t) (row_of p)
 
 -- no blank stands before the text, or after it
-abbrev pub spaced_to : ℕ → ℕ
-spaced_to p = cond (eqb p 13) 14 p
+abbrev pub spaced_to : Place → Place
+spaced_to Whole = Wrong
+spaced_to p = p
+
+-- ---- bytes
+
+abbrev pub fresh_scanner : Scanner
+fresh_scanner = record { mode = Fresh; place = Nothing }
+
+-- all bytes are a text
+abbrev pub whole_in : Mode → Place → Bool
+whole_in Between Whole = true
+whole_in m p = false
+
+abbrev pub is_whole : Scanner → Bool
+is_whole s = whole_in s.mode s.place
+
+-- the place where the piece ends here
+abbrev pub closed_in : Mode → Place → Place
+closed_in Fresh p = p
+closed_in Between p = p
+closed_in InSg p = Wrong
+closed_in InKa p = Wrong
+closed_in (InName c) p = next_of p (Name c)
+closed_in (InNumber n v) p = next_of p (Number v)
+
+abbrev pub closed_of : Scanner → Place
+closed_of s = closed_in s.mode s.place
+
+-- the name or number that ends here
+abbrev pub ended_in : Mode → Option Token
+ended_in (InName c) = Some (Name c)
+ended_in (InNumber n v) = Some (Number v)
+ended_in m = None
+
+-- with a piece told, and then in a mode
+abbrev pub turn_to : Option Token → Mode → Place → Turn
+turn_to t m p = record { scanner = record { mode = m; place = p }; token = t }
+
+abbrev pub lost_turn : Turn
+lost_turn = turn_to None Between Wrong
+
+abbrev pub begin_of : Scanner → Mode → Turn
+begin_of s m = turn_to (ended_in s.mode) m (closed_of s)
+
+abbrev pub letter_in : Mode → Scanner → ℕ → Turn
+letter_in (InName c) s b = turn_to None (InName (next_letter c b)) s.place
+letter_in m s b = begin_of s (InName (next_letter 0 b))
+
+abbrev pub letter_of : Scanner → ℕ → Turn
+letter_of s b = letter_in s.mode s b
+
+abbrev pub digit_in : Mode → Scanner → ℕ → Turn
+digit_in (InNumber n v) s b =
+    if nat_lt n 10 then turn_to None (InNumber (n + 1) (next_digit v b)) s.place else lost_turn
+digit_in m s b = begin_of s (InNumber 1 (next_digit 0 b))
+
+abbrev pub digit_of : Scanner → ℕ → Turn
+digit_of s b = digit_in s.mode s b
+
+abbrev pub blank_in : Mode → Scanner → Turn
+blank_in Fresh s = lost_turn
+blank_in m s = turn_to (ended_in s.mode) Between (spaced_to (closed_of s))
 
 abbrev pub blank_of : Scanner → Turn
-blank_of s = cond (eqb s.mode 0) (lost_turn s) (turn_to s (ended_or s 14) 1 (spaced_to (closed_of s)) 0 0)
+blank_of s = blank_in s.mode s
 
-abbrev pub mark_of : Scanner → ℕ → Turn
-mark_of s k = turn_to s (ended_or s k) 1 (next_of (closed_of s) k) 0 0
+-- a mark is told where no name and no number ends
+abbrev pub mark_of : Scanner → Token → Turn
+mark_of s t = turn_to (option_or (ended_in s.mode) (Some t)) Between (next_of (closed_of s) t)
 
 -- the last byte of SG, amet/ or KA
-abbrev pub last_of : Scanner → ℕ → Bool → ℕ → Turn
-last_of s m right k = cond (eqb s.mode m && right) (turn_to s k 1 (next_of s.place k) 0 0) (lost_turn s)
+abbrev pub last_of : Scanner → Bool → Token → Turn
+last_of s right t = if right then turn_to (Some t) Between (next_of s.place t) else lost_turn
+
+abbrev pub is_in_sg : Mode → Bool
+is_in_sg InSg = true
+is_in_sg m = false
+
+abbrev pub is_in_ka : Mode → Bool
+is_in_ka InKa = true
+is_in_ka m = false
+
+abbrev pub is_in_amet : Mode → Bool
+is_in_amet (InName c) = c == code_of (bytes "amet")
+is_in_amet m = false
 
 -- one byte more, by its class
-abbrev pub turn_on : ℕ → Scanner → ℕ → Turn
-turn_on c s b =
-    cond (eqb c 0) (letter_of s b)
-    (cond (eqb c 1) (digit_of s b)
-    (cond (eqb c 2) (last_of s 2 true 2)
-    (cond (eqb c 3) (last_of s 4 (eqb s.code (code_of (bytes "amet"))) 3)
-    (cond (eqb c 4) (last_of s 3 true 4)
-    (cond (ltb c 11) (mark_of s c)
-    (cond (eqb c 11) (blank_of s)
-    (cond (eqb c 12) (begin_of s 2 0 0)
-    (cond (eqb c 13) (begin_of s 3 0 0) (lost_turn s)))))))))
+abbrev pub turn_on : Class → Scanner → ℕ → Turn
+turn_on small s b = letter_of s b
+turn_on digit s b = digit_of s b
+turn_on blank s b = blank_of s
+turn_on (mark p) s b = mark_of s (token_of p)
+turn_on slash s b = last_of s (is_in_amet s.mode) Amet
+turn_on S s b = begin_of s InSg
+turn_on G s b = last_of s (is_in_sg s.mode) Sg
+turn_on K s b = begin_of s InKa
+turn_on A s b = last_of s (is_in_ka s.mode) Ka
+turn_on other s b = lost_turn
 
 -- shut, or it would be written out wherever it stands
 unfoldable pub turn_of : Scanner → ℕ → Turn
-turn_of s b = turn_on (class_no (class_of b)) s b
+turn_of s b = turn_on (class_of b) s b

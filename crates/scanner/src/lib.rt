@@ -1,46 +1,73 @@
 // A text byte by byte: the place in the grammar, the piece that is being read, and what ended.
 #![tactic(auto)]
 
-ghost use Rattle.std.specs.Prelude.{◌≡◌, ◌<◌};
-ghost use Rattle.scanner.specs.Machine.{fresh_scanner, is_whole, closed_of, ended_or, turn_to, lost_turn, begin_of, letter_of, digit_of, blank_of, mark_of, last_of, turn_of};
+ghost use Rattle.std.specs.Prelude.{◌≡◌};
+ghost use Rattle.scanner.specs.Machine.{fresh_scanner, is_whole, closed_of, ended_in, turn_to, lost_turn, begin_of, letter_of, digit_of, blank_of, mark_of, last_of, turn_of};
 
-mod classes;
 mod letters;
+mod places;
 
-pub use classes::{KA, LIST, NAME, NUMBER, WRONG};
+pub use places::Place;
 
-// Modes: nothing read, between pieces, S read, K read, in a name, in a number.
-const FRESH: u8 = 0;
-
-const BETWEEN: u8 = 1;
-
-const IN_SG: u8 = 2;
-
-const IN_KA: u8 = 3;
-
-const IN_NAME: u8 = 4;
-
-const IN_NUMBER: u8 = 5;
-
-// The place of a whole text.
-const WHOLE: u8 = 13;
-
-// A mode, the place before the piece that is being read, the number of its digits, and its code or value.
+// A piece of a text: a name by its code, a number by its value, or a mark.
 #[derive(Clone, Copy)]
-pub struct Scanner {
-    pub mode: u8,
-    pub place: u8,
-    pub digits: u8,
-    pub code: u64,
+pub enum Token {
+    Name(u64),
+    Number(u64),
+    Sg,
+    Amet,
+    Ka,
+    Opens,
+    Shuts,
+    From,
+    To,
+    Comma,
+    Equals,
 }
 
-// The scanner after a byte, and the piece that it ended: the place before it, its kind, and its code or value.
+// What is being read: nothing yet, no piece, SG or KA of which the first byte is read, a name by its code, or a number by
+// its digits and its value.
+#[derive(Clone, Copy)]
+pub enum Mode {
+    Fresh,
+    Between,
+    InSg,
+    InKa,
+    InName { code: u64 },
+    InNumber { digits: u8, value: u64 },
+}
+
+// What is being read, and the place before it.
+#[derive(Clone, Copy)]
+pub struct Scanner {
+    pub mode: Mode,
+    pub place: Place,
+}
+
+// The scanner after a byte, and the piece that ended, if one did.
 #[derive(Clone, Copy)]
 pub struct Turn {
     pub scanner: Scanner,
-    pub place: u8,
-    pub kind: u8,
-    pub value: u64,
+    pub token: Option<Token>,
+}
+
+impl Turn {
+    // To a mode and a place, with a piece that ended.
+    fn to(token: Option<Token>, mode: Mode, place: Place) -> Turn
+        ensures { result ≡ turn_to token mode place }
+    {
+        Turn {
+            scanner: Scanner { mode, place },
+            token,
+        }
+    }
+
+    // To where no text can be.
+    fn lost() -> Turn
+        ensures { result ≡ lost_turn }
+    {
+        Turn::to(None, Mode::Between, Place::Wrong)
+    }
 }
 
 impl Scanner {
@@ -48,10 +75,8 @@ impl Scanner {
         ensures { result ≡ fresh_scanner }
     {
         Scanner {
-            mode: FRESH,
-            place: 0,
-            digits: 0,
-            code: 0,
+            mode: Mode::Fresh,
+            place: Place::Nothing,
         }
     }
 
@@ -59,134 +84,106 @@ impl Scanner {
     pub fn is_whole(self) -> bool
         ensures { result ≡ is_whole self }
     {
-        (self.mode == BETWEEN) & (self.place == WHOLE)
+        matches!(self.mode, Mode::Between) && matches!(self.place, Place::Whole)
     }
 
     // The place where the piece ends here.
-    fn closed(self) -> u8
+    fn closed(self) -> Place
         ensures { result ≡ closed_of self }
     {
-        if self.mode == IN_NAME {
-            return classes::next(self.place, classes::NAME);
-        }
-        if self.mode == IN_NUMBER {
-            return classes::next(self.place, classes::NUMBER);
-        }
-        if (self.mode == IN_SG) | (self.mode == IN_KA) {
-            return classes::WRONG;
-        }
-        self.place
-    }
-
-    // The kind of piece that ends here, or another kind where none does.
-    fn ended_or(self, kind: u8) -> u8
-        ensures { result ≡ ended_or self kind }
-    {
-        if self.mode == IN_NAME {
-            return classes::NAME;
-        }
-        if self.mode == IN_NUMBER {
-            return classes::NUMBER;
-        }
-        kind
-    }
-
-    // With a piece of a kind ended, and another begun.
-    fn turn(self, kind: u8, mode: u8, place: u8, digits: u8, code: u64) -> Turn
-        ensures { result ≡ turn_to self kind mode place digits code }
-    {
-        Turn {
-            scanner: Scanner {
-                mode,
-                place,
-                digits,
-                code,
-            },
-            place: self.place,
-            kind,
-            value: self.code,
+        match self.mode {
+            Mode::InName { code } => self.place.after(Token::Name(code)),
+            Mode::InNumber { value, .. } => self.place.after(Token::Number(value)),
+            Mode::InSg | Mode::InKa => Place::Wrong,
+            Mode::Fresh | Mode::Between => self.place,
         }
     }
 
-    fn lost(self) -> Turn
-        ensures { result ≡ lost_turn self }
+    // The name or number that ends here.
+    fn ended(self) -> Option<Token>
+        ensures { result ≡ ended_in self.mode }
     {
-        self.turn(classes::OTHER, BETWEEN, classes::WRONG, 0, 0)
+        match self.mode {
+            Mode::InName { code } => Some(Token::Name(code)),
+            Mode::InNumber { value, .. } => Some(Token::Number(value)),
+            _ => None,
+        }
     }
 
-    fn begin(self, mode: u8, digits: u8, code: u64) -> Turn
-        ensures { result ≡ begin_of self mode digits code }
+    // The first byte of a name, a number, SG or KA.
+    fn begin(self, mode: Mode) -> Turn
+        ensures { result ≡ begin_of self mode }
     {
-        self.turn(
-            self.ended_or(classes::OTHER),
-            mode,
-            self.closed(),
-            digits,
-            code,
-        )
+        Turn::to(self.ended(), mode, self.closed())
     }
 
     fn on_letter(self, b: u8) -> Turn
         ensures { result ≡ letter_of self b }
     {
-        if self.mode == IN_NAME {
-            return self.turn(
-                classes::OTHER,
-                IN_NAME,
+        match self.mode {
+            Mode::InName { code } => Turn::to(
+                None,
+                Mode::InName {
+                    code: letters::letter(code, b),
+                },
                 self.place,
-                0,
-                letters::letter(self.code, b),
-            );
+            ),
+            _ => self.begin(Mode::InName {
+                code: letters::letter(0, b),
+            }),
         }
-        self.begin(IN_NAME, 0, letters::letter(0, b))
     }
 
     fn on_digit(self, b: u8) -> Turn
         ensures { result ≡ digit_of self b }
     {
-        if self.mode == IN_NUMBER {
-            if self.digits < 10 {
-                let code = letters::digit(self.code, b);
-                return self.turn(classes::OTHER, IN_NUMBER, self.place, self.digits + 1, code);
+        match self.mode {
+            Mode::InNumber { digits, value } => {
+                if digits >= 10 {
+                    return Turn::lost();
+                }
+                let mode = Mode::InNumber {
+                    digits: digits + 1,
+                    value: letters::digit(value, b),
+                };
+                Turn::to(None, mode, self.place)
             }
-            return self.lost();
+            _ => self.begin(Mode::InNumber {
+                digits: 1,
+                value: letters::digit(0, b),
+            }),
         }
-        self.begin(IN_NUMBER, 1, letters::digit(0, b))
     }
 
     // A blank: none stands before the text or after it.
     fn on_blank(self) -> Turn
         ensures { result ≡ blank_of self }
     {
-        if self.mode == FRESH {
-            return self.lost();
+        match self.mode {
+            Mode::Fresh => Turn::lost(),
+            _ => Turn::to(self.ended(), Mode::Between, self.closed().spaced()),
         }
-        let kind = self.ended_or(classes::OTHER);
-        let place = self.closed();
-        if place == WHOLE {
-            return self.turn(kind, BETWEEN, classes::WRONG, 0, 0);
-        }
-        self.turn(kind, BETWEEN, place, 0, 0)
     }
 
-    // A mark of one byte.
-    fn on_mark(self, kind: u8) -> Turn
-        requires { kind < 11 }
-        ensures { result ≡ mark_of self kind }
+    // A mark of one byte. It is told where no name and no number ends.
+    fn on_mark(self, mark: Token) -> Turn
+        ensures { result ≡ mark_of self mark }
     {
-        let place = classes::next(self.closed(), kind);
-        self.turn(self.ended_or(kind), BETWEEN, place, 0, 0)
+        Turn::to(
+            self.ended().or(Some(mark)),
+            Mode::Between,
+            self.closed().after(mark),
+        )
     }
 
-    // The last byte of SG, amet/ or KA.
-    fn on_last(self, mode: u8, right: bool, kind: u8) -> Turn
-        requires { kind < 11 }
-        ensures { result ≡ last_of self mode right kind }
+    // The last byte of SG, amet/ or KA, which is right where the bytes before are being read.
+    fn on_last(self, right: bool, mark: Token) -> Turn
+        ensures { result ≡ last_of self right mark }
     {
-        if (self.mode == mode) & right {
-            return self.turn(kind, BETWEEN, classes::next(self.place, kind), 0, 0);
+        if !right {
+            return Turn::lost();
         }
-        self.lost()
+        Turn::to(Some(mark), Mode::Between, self.place.after(mark))
     }
 
     // One byte more.
@@ -194,34 +191,30 @@ impl Scanner {
     pub fn step(self, b: u8) -> Turn
         ensures { result ≡ turn_of self b }
     {
-        let class = classes::class_of(b);
-        if class == classes::NAME {
-            return self.on_letter(b);
+        match b {
+            b'a'..=b'z' => self.on_letter(b),
+            b'0'..=b'9' => self.on_digit(b),
+            b' ' => self.on_blank(),
+            b'{' => self.on_mark(Token::Opens),
+            b'}' => self.on_mark(Token::Shuts),
+            b'[' => self.on_mark(Token::From),
+            b']' => self.on_mark(Token::To),
+            b',' => self.on_mark(Token::Comma),
+            b'=' => self.on_mark(Token::Equals),
+            b'/' => self.on_last(
+                matches!(
+                    self.mode,
+                    Mode::InName {
+                        code: letters::AMET
+                    }
+                ),
+                Token::Amet,
+            ),
+            b'S' => self.begin(Mode::InSg),
+            b'G' => self.on_last(matches!(self.mode, Mode::InSg), Token::Sg),
+            b'K' => self.begin(Mode::InKa),
+            b'A' => self.on_last(matches!(self.mode, Mode::InKa), Token::Ka),
+            _ => Turn::lost(),
         }
-        if class == classes::NUMBER {
-            return self.on_digit(b);
-        }
-        if class == classes::SG {
-            return self.on_last(IN_SG, true, classes::SG);
-        }
-        if class == classes::AMET {
-            return self.on_last(IN_NAME, self.code == letters::AMET, classes::AMET);
-        }
-        if class == classes::KA {
-            return self.on_last(IN_KA, true, classes::KA);
-        }
-        if class < classes::BLANK {
-            return self.on_mark(class);
-        }
-        if class == classes::BLANK {
-            return self.on_blank();
-        }
-        if class == classes::S {
-            return self.begin(IN_SG, 0, 0);
-        }
-        if class == classes::K {
-            return self.begin(IN_KA, 0, 0);
-        }
-        self.lost()
     }
 }

@@ -7,7 +7,7 @@ ghost use Rattle.sg.specs.Readings.{read_of};
 use descriptor::Refusal;
 use notes::Notes;
 use outcomes::Reading;
-use scanner::Scanner;
+use scanner::{Place, Scanner};
 
 // What a text reads as. It is refused where the grammar does not have it, and then where its names or values are wrong.
 pub fn read(text: &[u8]) -> Result<Reading, Refusal>
@@ -17,11 +17,13 @@ pub fn read(text: &[u8]) -> Result<Reading, Refusal>
     let mut notes = Notes::none();
     for &b in text {
         let turn = scanner.step(b);
-        scanner = turn.scanner;
-        if scanner.place == scanner::WRONG {
+        if turn.scanner.place == Place::Wrong {
             return Err(Refusal::Grammar);
         }
-        notes.note(turn.place, turn.kind, turn.value);
+        if let Some(token) = turn.token {
+            notes.note(scanner.place, token);
+        }
+        scanner = turn.scanner;
     }
     outcomes::answer(scanner.is_whole(), &notes)
 }

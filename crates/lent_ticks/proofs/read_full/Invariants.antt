@@ -2,8 +2,8 @@
 use Rattle.std.proofs.Common.{◌≤◌, ◌-◌, length}
 use Rattle.lent_ticks.proofs.read_full.Given as goal
 
-abbrev pub invariant-loop-done : goal.invariant-loop-done
-invariant-loop-done g l = l.done ≤ length l.buf
+abbrev pub invariant-loop-got : goal.invariant-loop-got
+invariant-loop-got g l = l.done ≤ length l.buf
 
-abbrev pub decreases-loop-done : goal.decreases-loop-done
-decreases-loop-done g l = length l.buf - l.done
+abbrev pub decreases-loop-got : goal.decreases-loop-got
+decreases-loop-got g l = length l.buf - l.done

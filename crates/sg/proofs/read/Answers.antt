@@ -1,13 +1,14 @@
 -- `read` meets its contract.
-use Rattle.std.proofs.Common.{Bool, ap, ◌∙◌, arith}
+use Rattle.std.proofs.Common.{Bool, ap, ◌∙◌, arith, rules}
 use Rattle.outcomes.specs.Outcomes.{answer_of}
 use Rattle.sg.proofs.Loop.{refuses, scanner-next, notes-next, answers}
 use Rattle.sg.proofs.read.Goals as goal
+use Rattle.sg.proofs.read.Goals.{in-Some, in_default}
 
-pub returns-then-scanner-eq-WRONG : goal.returns-then-scanner-eq-WRONG
-returns-then-scanner-eq-WRONG c =
+pub returns-then-eq : goal.returns-then-eq
+returns-then-eq c =
     let l = c.loop-b in
-    refuses c.args.text.now l.b-index l.scanner c.step-turn.result (omega arith) l.invariant.scanner-is c.step-turn.ensures c.if-scanner-eq-WRONG.true
+    refuses c.args.text.now l.b-index l.scanner c.step-turn.result (omega arith) l.invariant.scanner-is c.step-turn.ensures (search rules)
 
 pub loop-b-preserved : goal.loop-b-preserved
 loop-b-preserved c =
@@ -17,7 +18,7 @@ loop-b-preserved c =
       scanner-is = scanner-next text l.b-index l.scanner c.step-turn.result (omega arith) l.invariant.scanner-is c.step-turn.ensures;
       notes-are =
           notes-next text l.b-index l.scanner c.step-turn.result (omega arith) l.invariant.scanner-is c.step-turn.ensures l.invariant.notes-are
-          c.if-scanner-eq-WRONG.false c.note.ensures;
+          (search rules) (elim c.match-turn.branch [ in-Some w ↦ rw (w.in-Some.is) (w.notes-is ∙ w.note.ensures) | in_default w ↦ rw w.in_default.is w.notes-is ]);
     }
 
 pub returns : goal.returns

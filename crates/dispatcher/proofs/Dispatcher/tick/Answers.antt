@@ -19,8 +19,8 @@ loop-i-preserved c =
     let i = c.loop-i.i in
     let l = c.loop-i-test.true in
     record {
-      rows = rw (c.tick_in_place.ensures.1, c.loop-i.invariant.rows, add-one) (row_step _ i ls l);
-      gathers = rw (c.gather.ensures, c.tick_in_place.ensures.0, c.loop-i.invariant.rows, c.loop-i.invariant.gathers, add-one) (gather-step _ c.args.self i ls l);
+      rows = rw (c.tick_in_place.ensures.moved, c.loop-i.invariant.rows, add-one) (row_step _ i ls l);
+      gathers = rw (c.gather.ensures, c.tick_in_place.ensures.told, c.loop-i.invariant.rows, c.loop-i.invariant.gathers, add-one) (gather-step _ c.args.self i ls l);
     }
 
 pub returns-clause-answer : goal.returns-clause-answer

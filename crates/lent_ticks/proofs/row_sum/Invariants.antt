@@ -1,9 +1,0 @@
--- The lines are counted up to 64.
-use Rattle.std.proofs.Common.{◌≤◌, ◌-◌}
-use Rattle.lent_ticks.proofs.row_sum.Given as goal
-
-abbrev pub invariant-loop-i : goal.invariant-loop-i
-invariant-loop-i l = l.i ≤ 64
-
-abbrev pub decreases-loop-i : goal.decreases-loop-i
-decreases-loop-i l = 64 - l.i
