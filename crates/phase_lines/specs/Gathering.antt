@@ -1,6 +1,6 @@
 -- The phase lines that a descriptor of a script has got so far, and the seven lists that they make.
 use Rattle.std.specs.Prelude.{◌≡◌, true, false, cond, List, [], ◌∷◌, ℕ, ◌+◌, ◌≤◌, ltb, length, set, take, drop}
-use Rattle.std.specs.Prelude.{replicate, Option, Some, None}
+use Rattle.std.specs.Prelude.{Option, Some, None, replicate}
 use Rattle.tariff.specs.declared.Phase.{Phase}
 use Rattle.phase_lists.specs.Lists.{Lists, lists_of, phases_of, one_length}
 use Rattle.phase_lines.specs.declared.Phases.{Phases}

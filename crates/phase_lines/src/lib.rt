@@ -2,13 +2,13 @@
 #![tactic(auto)]
 
 ghost use Rattle.std.specs.Prelude.{◌≡◌, take, drop};
-ghost use Rattle.line.specs.Lines.{describe_of};
-ghost use Rattle.phase_lines.specs.Gathering.{none_read, with_phase, with_line, first_of, lists_in};
+ghost use Rattle.grammar.specs.Meaning.{descriptor};
+ghost use Rattle.line.specs.Lines.{meant_by};
+ghost use Rattle.phase_lists.specs.Lists.{lists_in};
+ghost use Rattle.phase_lines.specs.Gathering.{none_read, with_phase, with_line, lists_in as read_lists};
 
-mod tickets;
-
-use descriptor::{BurstPart, TariffPart};
-use line::{Answered, Line};
+use descriptor::{BurstPart, Descriptor, TariffPart};
+use phase_lists::PhaseLists;
 use tariff::Phase;
 
 // How many were read, whether one was bad, and the seven lists of nine: list i stands from place 9 i on.
@@ -20,33 +20,11 @@ pub struct Phases {
 }
 
 // The first k numbers of the list that stands from a place on.
-pub(crate) fn part(lists: &[u32], from: usize, k: usize) -> &[u32]
+fn part(lists: &[u32], from: usize, k: usize) -> &[u32]
     ensures { result.now ≡ take k (drop from lists.now) }
 {
-    if from <= lists.len() {
-        if k <= lists.len() - from {
-            return &lists[from..from + k];
-        }
-        return &lists[from..];
-    }
-    &lists[0..0]
-}
-
-// A descriptor on a line, with the first k phases of its lists.
-fn described(line: Line, tariff: TariffPart, burst: BurstPart, lists: &[u32], k: usize) -> Answered
-    ensures { result ≡ describe_of line tariff (first_of lists.now k) burst }
-{
-    line.describe(
-        tariff,
-        part(lists, 0, k),
-        part(lists, 9, k),
-        part(lists, 18, k),
-        part(lists, 27, k),
-        part(lists, 36, k),
-        part(lists, 45, k),
-        part(lists, 54, k),
-        burst,
-    )
+    let list = lists.get(from..).unwrap_or(&[]);
+    &list[..k.min(list.len())]
 }
 
 impl Phases {
@@ -90,11 +68,31 @@ impl Phases {
         }
     }
 
-    // A descriptor on a line, with the phases that were read.
-    pub fn describe(self, line: Line, tariff: TariffPart, burst: BurstPart) -> Answered
-        ensures { result ≡ describe_of line tariff (lists_in self) burst }
+    // The seven lists, with the phases that were read.
+    fn lists(&self) -> PhaseLists<'_>
+        ensures { lists_in result ≡ read_lists self.now }
     {
-        let lists = self.lists;
-        described(line, tariff, burst, &lists, self.taken)
+        let lists = &self.lists;
+        let k = self.taken;
+        PhaseLists {
+            pri: part(lists, 0, k),
+            pcx: part(lists, 9, k),
+            repx: part(lists, 18, k),
+            pcn: part(lists, 27, k),
+            repn: part(lists, 36, k),
+            ci: part(lists, 45, k),
+            pd: part(lists, 54, k),
+        }
+    }
+
+    // A descriptor of these parts, with the phases that were read.
+    pub fn descriptor(&self, tariff: TariffPart, burst: BurstPart) -> Descriptor<'_>
+        ensures { meant_by result ≡ descriptor tariff (read_lists self.now) burst }
+    {
+        Descriptor::Parts {
+            tariff,
+            lists: self.lists(),
+            burst,
+        }
     }
 }

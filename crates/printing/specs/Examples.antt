@@ -1,15 +1,15 @@
 -- The events that the paper's example prints. And a notice, counters and the answers to asks of a card.
-use Rattle.std.specs.Prelude.{◌≡◌, refl, true, false, ◌++◌}
-use Rattle.answers.specs.declared.Front.TheVariants.{None as NoFront, Tariff as TariffFront, Burst as BurstFront}
+use Rattle.std.specs.Prelude.{◌≡◌, refl, true, false, Some, None, ◌++◌}
+use Rattle.answers.specs.declared.Front.TheVariants.{Tariff as TariffFront, Burst as BurstFront}
 use Rattle.printing.specs.Bytes.{bytes}
 use Rattle.printing.specs.Text.{digits_of, tick_text, notice_text, counters_text, asked_text}
 use Rattle.printing.specs.declared.Answer.TheVariants.{Ok, No}
 
 -- the events of the paper's example from tick 201 on
 pub output :
-    tick_text 201 3 (record { tariff = false; burst = false; front = BurstFront; report = true })
-    ++ tick_text 251 3 (record { tariff = false; burst = true; front = NoFront; report = false })
-    ++ tick_text 401 4 (record { tariff = false; burst = false; front = TariffFront; report = false })
+    tick_text 201 3 (record { tariff = false; burst = false; front = Some BurstFront; report = true })
+    ++ tick_text 251 3 (record { tariff = false; burst = true; front = None; report = false })
+    ++ tick_text 401 4 (record { tariff = false; burst = false; front = Some TariffFront; report = false })
     ≡ bytes "f 201 m 3\nr 201\nc 251 m\nf 401 b 4\n"
 unfolding digits_of
 output = refl

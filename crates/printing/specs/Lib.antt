@@ -3,3 +3,4 @@ pub mod Bytes
 pub mod Text
 pub mod Buffer
 pub mod Examples
+pub mod Answers

@@ -1,9 +1,9 @@
 -- The text that `meter` and `card` print.
 use Rattle.std.specs.Prelude.{Bool, true, false, cond, List, [], ◌∷◌, ◌++◌, ℕ, zero, suc, ◌+◌, ◌/◌, ◌%◌}
-use Rattle.std.specs.Prelude.{ltb}
+use Rattle.std.specs.Prelude.{Option, None, Some, ltb}
 use Prim.Native.String.{String, ◌++◌ as ◌&◌}
 use Rattle.answers.specs.declared.Front.{Front}
-use Rattle.answers.specs.declared.Front.TheVariants.{None, Tariff, Burst}
+use Rattle.answers.specs.declared.Front.TheVariants.{Tariff, Burst}
 use Rattle.answers.specs.declared.Tick.{Tick}
 use Rattle.printing.specs.Bytes.{bytes}
 use Rattle.printing.specs.declared.Answer.{Answer}
@@ -48,10 +48,10 @@ abbrev pub begun_text : ℕ → String → ℕ → List ℕ
 begun_text clock letter cpc = bytes "f " ++ digits_of clock ++ bytes (" " & letter & " ") ++ digits_of cpc ++ bytes "\n"
 
 -- the line of the front of a tick, if it has one
-abbrev pub front_text : ℕ → ℕ → Front → List ℕ
+abbrev pub front_text : ℕ → ℕ → Option Front → List ℕ
 front_text clock cpc None = []
-front_text clock cpc Tariff = begun_text clock tariff_letter cpc
-front_text clock cpc Burst = begun_text clock burst_letter cpc
+front_text clock cpc (Some Tariff) = begun_text clock tariff_letter cpc
+front_text clock cpc (Some Burst) = begun_text clock burst_letter cpc
 
 -- the line of a report: `r` and clock
 abbrev pub report_text : ℕ → List ℕ

@@ -1,12 +1,16 @@
 // The lines that the programs `meter` and `card` print.
 #![tactic(auto)]
 
+ghost use Rattle.std.specs.Prelude.{◌≡◌};
+ghost use Rattle.printing.specs.Answers.{answer_of};
+
 mod asks;
 mod buffer;
 mod notices;
 mod text;
 
 pub use asks::put_asked;
+use descriptor::Refusal;
 pub use notices::{put_counters, put_notice};
 pub use text::{put_answer, put_tick};
 
@@ -17,4 +21,16 @@ pub enum Answer {
     Ok(u32),
     No(u32),
     Bad,
+}
+
+// A call's answer: the burst pulses cancelled, or why it was turned down.
+impl From<Result<u32, Refusal>> for Answer {
+    ghost from_gives = { λ verdict answer. answer ≡ answer_of verdict };
+
+    fn from(verdict: Result<u32, Refusal>) -> Answer {
+        match verdict {
+            Ok(cancelled) => Answer::Ok(cancelled),
+            Err(why) => Answer::No(why.number()),
+        }
+    }
 }

@@ -55,15 +55,15 @@ fn put_letter(buf: &mut [u8], at: usize, clock: u32, letter: &[u8], cpc: u32) ->
 }
 
 // Puts the line of a front, if there is one.
-fn put_front(buf: &mut [u8], at: usize, clock: u32, cpc: u32, front: Front) -> usize
+fn put_front(buf: &mut [u8], at: usize, clock: u32, cpc: u32, front: Option<Front>) -> usize
     requires { at + 26 ≤ length buf.old }
     ensures put { Put buf.old at (front_text clock cpc front) buf.new result }
     ensures upper_bound { result ≤ at + 26 }
 {
     match front {
-        Front::None => at,
-        Front::Tariff => put_letter(buf, at, clock, b" b ", cpc),
-        Front::Burst => put_letter(buf, at, clock, b" m ", cpc),
+        None => at,
+        Some(Front::Tariff) => put_letter(buf, at, clock, b" b ", cpc),
+        Some(Front::Burst) => put_letter(buf, at, clock, b" m ", cpc),
     }
 }
 
