@@ -8,7 +8,8 @@ ghost use Rattle.notes.specs.Noting.{has_in};
 ghost use Rattle.outcomes.specs.Outcomes.{kept_of, lists_in, answer_of};
 
 use descriptor::{BurstPart, Refusal, TariffPart};
-use notes::{Notes, Values, slots};
+use notes::Notes;
+pub use notes::{Values, slots};
 use phase_lists::PhaseTable;
 
 // The parts of a descriptor that was read, and what is kept of the values of each name, by its slot. The values of the

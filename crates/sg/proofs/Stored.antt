@@ -1,13 +1,13 @@
 -- The values that are stored: each slot holds the first nine of those that were noted for it.
-use Prim.Native.Nat.{ℕ, suc, ◌+◌, ◌-◌, ◌*◌, ◌≤◌, ◌<◌, min}
+use Prim.Native.Nat.{ℕ, suc, ◌+◌, ◌≤◌, ◌<◌, min}
 use native.Mathlib.Omega.{arith}
 use mathlib.Core.Bool.{Bool, true, false, cond, ◌||◌, true≢false as no, or-false, or_assoc}
 use mathlib.Core.List.{List, [], ◌∷◌, ◌++◌, append-nil, append_assoc}
 use mathlib.Core.Path.{◌≡◌, refl, sym, ap, subst, ◌∙◌}
 use borrow.Author.Tests.{lt-ltb, ltb-true, ltb-false}
 use lib.Dec.{ltb}
-use lib.ListN.{length, get_or, set, take, drop, length-set, length-append, length-drop}
-use lib.Seq.{get_or-set_same, get_or-set_other, take_all, take-append-le, take-suc-set, take-set-le, drop-set-lt, drop-set-add}
+use lib.ListN.{length, set, take, length-set, length-append}
+use lib.Seq.{get_or-set_same, get_or-set_other, take_all, take-append-le, take-suc-set}
 use Rattle.grammar.specs.Grammar.{Row, none, ◌▹◌}
 use Rattle.grammar.specs.Meaning.{listed, any_too_large, values_by}
 use Rattle.notes.specs.Noting.{no_values, pushed, values_at, has_in, stored_of, value_of, marked_of, item_slot, signal_slot}
