@@ -1,44 +1,28 @@
--- The first line feed of a part, found byte by byte.
-use mathlib.Core.Bool.{Bool, true, false}
-use mathlib.Core.Path.{◌≡◌, refl, sym, ap}
-use mathlib.Core.List.{List, []}
-use Prim.Native.Nat.{ℕ, suc, ◌+◌, ◌-◌, ◌≤◌, ◌<◌}
-use native.Mathlib.Numerals.{add-one}
+-- How many bytes the next line has.
+use mathlib.Core.Bool.{Bool, true, false, ◌||◌}
+use mathlib.Core.Path.{◌≡◌, refl}
+use mathlib.Core.List.{List}
+use Prim.Native.Nat.{ℕ, ◌≤◌}
 use native.Mathlib.Omega.{arith}
-use borrow.Author.Tests.{ltb-true, ltb-false, lt-ltb, le-ltb, eq-eqb, ne_eqb}
-use lib.Dec.{ltb}
-use lib.ListN.{length, get_or}
-use Rattle.lines.specs.Spans.{line_feed, part, before_feed}
-use Rattle.lines.proofs.PartLaws.{part-past, part_none, part-more}
+use lib.ListN.{length}
+use Rattle.std.specs.Prelude.{Some, None, cond}
+use Rattle.std.specs.Option.{option_or}
+use Rattle.std.specs.Bool.{then_some}
+use Rattle.std.proofs.lemmas.Option.{same_Some}
+use Rattle.std.proofs.lemmas.List.Sums.{prefix_len-le-length}
+use borrow.Author.Tests.{ltb-false}
+use Rattle.lines.specs.Spans.{before_feed, has_feed}
 
-module _ (i to : ℕ) (l : List ℕ) where
-  ends : part i to l ≡ [] → i ≡ i + before_feed (part i to l)
-  ends e = let none : before_feed (part i to l) ≡ 0 = ap before_feed e in omega arith
+-- no more bytes stand before a line feed than there are
+pub before_feed-le : (l : List ℕ) → before_feed l ≤ length l
+before_feed-le l = prefix_len-le-length _ l
 
-  -- past the buffer no line feed is found
-  pub feed-past : length l ≤ i → i ≡ i + before_feed (part i to l)
-  feed-past h = ends (part-past i to l h)
-
-  -- nor is one past the end
-  pub feed-none : to ≤ i → i ≡ i + before_feed (part i to l)
-  feed-none h = ends (part_none i to l h)
-
-  -- a line feed is found where it stands
-  pub feed-here : i < to → i < length l → get_or l i 0 ≡ line_feed → i ≡ i + before_feed (part i to l)
-  feed-here h k e =
-      let none : before_feed (part i to l) ≡ 0 = rw (part-more i to l h k, eq-eqb _ _ e) in
-      omega arith
-
-  -- and past another byte
-  pub feed-on : i < to → i < length l → (get_or l i 0 ≡ line_feed → ⊥) → i + 1 + before_feed (part (i + 1) to l) ≡ i + before_feed (part i to l)
-  feed-on h k e =
-      let one : before_feed (part i to l) ≡ suc (before_feed (part (i + 1) to l)) = rw (add-one, part-more i to l h k, ne_eqb _ _ e) in
-      omega arith
-
-shift : (b : Bool) (s k m : ℕ) → ltb (s + k) m ≡ b → b ≡ ltb k (m - s)
-shift true s k m e = sym (lt-ltb k (m - s) (omega (arith, ltb-true (s + k) m e)))
-shift false s k m e = sym (le-ltb k (m - s) (omega (arith, ltb-false (s + k) m e)))
-
--- a place before an end, and the same counted from a start
-pub ltb-shift : (s k m : ℕ) → ltb (s + k) m ≡ ltb k (m - s)
-ltb-shift s k m = shift (ltb (s + k) m) s k m refl
+-- where a line feed is found, the bytes before it; else all that are left, where they make a last line
+pub line_size : (l : List ℕ) (last : Bool) (n : ℕ) → option_or (cond (has_feed l) (Some (before_feed l)) None) (then_some last (length l)) ≡ Some n
+    → (has_feed l || last ≡ true) × (n ≡ before_feed l)
+line_size l last n e = by (has_feed l) last refl e
+  where
+    by : (b c : Bool) → has_feed l ≡ b → option_or (cond b (Some (before_feed l)) None) (then_some c (length l)) ≡ Some n → (b || c ≡ true) × (n ≡ before_feed l)
+    by true c h e = (refl, same_Some n (before_feed l) (grind arith))
+    by false true h e = (refl, omega (arith, before_feed-le l, ltb-false (before_feed l) (length l) h, same_Some (length l) n e))
+    by false false h e = grind arith

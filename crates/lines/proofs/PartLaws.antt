@@ -5,6 +5,8 @@ use Prim.Native.Nat.{ℕ, zero, suc, ◌-◌, ◌≤◌, ◌<◌, min}
 use native.Mathlib.Omega.{arith}
 use lib.ListN.{length, get_or, take, drop, length-take, length-drop, drop_of_length-le}
 use lib.Seq.{take-nil, drop-cons}
+use mathlib.Core.Logic.{inl, inr}
+use Rattle.std.proofs.lemmas.Bool.{cases_lt}
 use Rattle.lines.specs.Spans.{part}
 
 -- no more is taken of a list than it has
@@ -38,16 +40,23 @@ module _ (from to : ℕ) (l : List ℕ) where
   unfolding part
   part_none h = let none : to - from ≡ 0 = omega arith in ap (λ (k : ℕ). take k (drop from l)) none
 
-  -- any other begins with its first byte
-  pub part-more : from < to → from < length l → part from to l ≡ get_or l from 0 ∷ part (suc from) to l
-  unfolding part
-  part-more h k =
-      let more : to - from ≡ suc (to - suc from) = omega arith in
-      ap (λ (n : ℕ). take n (drop from l)) more ∙ ap (take (suc (to - suc from))) (drop-cons l from 0 k)
-
   -- a part that begins past its end or the buffer's
   pub part-empty : min to (length l) < from → part from to l ≡ []
   unfolding part
   part-empty h =
       let none : min (to - from) (length (drop from l)) ≡ 0 = omega (arith, length-drop from l) in
       sym (clip (to - from) (drop from l)) ∙ ap (λ (k : ℕ). take k (drop from l)) none
+
+  -- a part between places within the buffer
+  pub part-within : (s e : ℕ) → e ≡ min to (length l) → s ≡ min from e → take (e - s) (drop s l) ≡ part from to l
+  part-within s e p q = elim (cases_lt e from) [
+    | inl h ↦ let none : e - s ≡ 0 = omega arith in ap (λ (k : ℕ). take k (drop s l)) none ∙ sym (part-empty (omega arith))
+    | inr h ↦ let first : s ≡ from = omega arith in rw (first, p) part-clip
+  ]
+
+  -- any other begins with its first byte
+  pub part-more : from < to → from < length l → part from to l ≡ get_or l from 0 ∷ part (suc from) to l
+  unfolding part
+  part-more h k =
+      let more : to - from ≡ suc (to - suc from) = omega arith in
+      ap (λ (n : ℕ). take n (drop from l)) more ∙ ap (take (suc (to - suc from))) (drop-cons l from 0 k)

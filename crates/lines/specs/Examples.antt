@@ -1,5 +1,5 @@
 -- A buffer of eight bytes, into which `ab`, a line feed and `c` were read.
-use Rattle.std.specs.Prelude.{◌≡◌, refl, true, false, List, [], ◌∷◌, ◌++◌, ℕ, replicate}
+use Rattle.std.specs.Prelude.{◌≡◌, refl, true, false, Some, None, List, [], ◌∷◌, ◌++◌, ℕ, replicate}
 use Rattle.lines.specs.declared.Input.{Input}
 use Rattle.lines.specs.Spans.{part, at_front, begun, next_of, over_of, past_of}
 use Rattle.lines.specs.Squeezing.{squeezed_from, squeezed}
@@ -16,16 +16,16 @@ pub came : read ≡ at_front 4 false
 came = refl
 
 -- the first line is `ab`
-pub first : next_of buf read ≡ record { some = true; whole = true; from = 0; to = 2 }
+pub first : next_of buf read ≡ Some (record { whole = true; from = 0; to = 2 })
 unfolding part
 first = refl
 
 -- past it no line is read whole, and the input is not over
-pub second : next_of buf (past_of read 2) ≡ record { some = false; whole = true; from = 3; to = 4 }
+pub second : next_of buf (past_of read 2) ≡ None
 unfolding part
 second = refl
 
-pub goes_on : over_of (past_of read 2) false ≡ false
+pub goes_on : over_of (past_of read 2) None ≡ false
 goes_on = refl
 
 -- `c` moves to the front, and where no byte comes it is the last line
@@ -35,7 +35,7 @@ moved = refl
 
 pub last :
     next_of (fronted buf (past_of read 2)) (fed_of (room_of buf (past_of read 2)) 8 0)
-    ≡ record { some = true; whole = true; from = 0; to = 1 }
+    ≡ Some (record { whole = true; from = 0; to = 1 })
 unfolding part
 last = refl
 
@@ -44,7 +44,7 @@ pub dropped : room_of buf (at_front 8 false) ≡ at_front 0 true
 unfolding part squeezed_from
 dropped = refl
 
-pub rest : next_of buf (fed_of (at_front 0 true) 8 4) ≡ record { some = true; whole = false; from = 0; to = 2 }
+pub rest : next_of buf (fed_of (at_front 0 true) 8 4) ≡ Some (record { whole = false; from = 0; to = 2 })
 unfolding part
 rest = refl
 

@@ -1,64 +1,27 @@
-// What is sought and moved in the buffer.
-ghost use Rattle.std.specs.Prelude.{◌≡◌, ◌+◌, ◌-◌, ◌≤◌, min, ◌++◌, length, take, drop};
-ghost use Rattle.lines.specs.Spans.{part, before_feed};
+// Parts of the buffer.
+ghost use Rattle.std.specs.Prelude.{◌≡◌, position};
+ghost use Rattle.lines.specs.Spans.{part, is_line_feed};
 
 use super::Span;
 
-// The smaller of two numbers.
-pub(crate) fn least(a: usize, b: usize) -> usize
-    ensures { result ≡ min a b }
+// The bytes from the place `from` on and before the place `to`, as far as there are any.
+#[tactic(auto, unfolding(crate::specs::Spans::part))]
+pub(crate) fn part(buf: &[u8], from: usize, to: usize) -> &[u8]
+    ensures { result.now ≡ part from to buf.now }
 {
-    if a < b { a } else { b }
+    buf.get(from..to.min(buf.len())).unwrap_or(&[])
 }
 
-// How many places of a buffer of `size` bytes are at `from` or after it, and before `to`.
-pub(crate) fn count(size: usize, from: usize, to: usize) -> usize
-    ensures { result ≡ min to size - from }
+// The place of the first line feed, if there is one.
+pub(crate) fn line_feed(bytes: &[u8]) -> Option<usize>
+    ensures { result ≡ position is_line_feed bytes.now }
 {
-    let end = least(to, size);
-    if from < end { end - from } else { 0 }
-}
-
-// The place of the first line feed from `from` on and before `to`, or the place where the bytes end if there is none.
-pub(crate) fn line_feed(buf: &[u8], from: usize, to: usize) -> usize
-    ensures { result ≡ from + before_feed (part from to buf.now) }
-{
-    let mut i = from;
-    while i < to {
-        if i >= buf.len() {
-            return i;
-        }
-        if buf[i] == 10 {
-            return i;
-        }
-        i += 1;
-    }
-    i
+    bytes.iter().position(|b| *b == b'\n')
 }
 
 // The bytes of a line.
 pub fn text(buf: &[u8], line: Span) -> &[u8]
     ensures { result.now ≡ part line.from line.to buf.now }
 {
-    let from = line.from;
-    let to = least(line.to, buf.len());
-    if from <= to {
-        return &buf[from..to];
-    }
-    &buf[0..0]
-}
-
-// Moves `held` bytes from `start` on to the front.
-pub(crate) fn move_to_front(buf: &mut [u8], start: usize, held: usize)
-    requires { held ≤ length buf.old - start }
-    ensures { buf.new ≡ take held (drop start buf.old) ++ drop held buf.old }
-{
-    if start == 0 {
-        return;
-    }
-    let mut i = 0;
-    while i < held {
-        buf[i] = buf[start + i];
-        i += 1;
-    }
+    part(buf, line.from, line.to)
 }

@@ -1,7 +1,7 @@
 // The lines of an input that comes piece by piece into a lent buffer.
 #![tactic(auto)]
 
-ghost use Rattle.std.specs.Prelude.{◌≡◌, ◌||◌, min, ltb};
+ghost use Rattle.std.specs.Prelude.{◌≡◌};
 ghost use Rattle.lines.specs.Spans.{at_front, begun, last_of, next_of, over_of, past_of};
 ghost use Rattle.lines.specs.Rooms.{fronted, room_of, fed_of};
 
@@ -10,7 +10,7 @@ mod reading;
 mod squeezing;
 
 pub use buffer::text;
-use buffer::{count, least, line_feed, move_to_front};
+use buffer::{line_feed, part};
 use squeezing::squeeze;
 
 // The bytes `start` to `end` of the buffer are read and not yet taken. `dropped` is set within a line that is too long
@@ -23,11 +23,10 @@ pub struct Input {
     pub came: bool,
 }
 
-// A line of the input, without its line feed: whether there is one, whether the buffer holds all that it says, its first
-// place, and the place after its last.
+// A line of the input, without its line feed: whether the buffer holds all that it says, its first place, and the place
+// after its last.
 #[derive(Clone, Copy)]
 pub struct Span {
-    pub some: bool,
     pub whole: bool,
     pub from: usize,
     pub to: usize,
@@ -57,43 +56,28 @@ impl Input {
     fn is_last(self) -> bool
         ensures { result ≡ last_of self }
     {
-        if self.came {
-            false
-        } else if self.dropped {
-            true
-        } else {
-            self.start < self.end
-        }
-    }
-
-    // Whether there is a line, where its line feed is looked for up to `to` in a buffer of `size` bytes.
-    fn is_line(self, to: usize, size: usize) -> bool
-        ensures { result ≡ ltb to (min self.end size) || last_of self }
-    {
-        if to < least(self.end, size) {
-            return true;
-        }
-        self.is_last()
+        !self.came && (self.dropped || self.start < self.end)
     }
 
     // The next line, if all of it was read or dropped.
-    pub fn next(self, buf: &[u8]) -> Span
+    #[tactic(auto, using(crate::proofs::FeedLaws::line_size, crate::proofs::PartLaws::length_part))]
+    pub fn next(self, buf: &[u8]) -> Option<Span>
         ensures { result ≡ next_of buf.now self }
     {
-        let to = line_feed(buf, self.start, self.end);
-        Span {
-            some: self.is_line(to, buf.len()),
+        let held = part(buf, self.start, self.end);
+        let size = line_feed(held).or(self.is_last().then_some(held.len()))?;
+        Some(Span {
             whole: !self.dropped,
             from: self.start,
-            to,
-        }
+            to: self.start + size,
+        })
     }
 
     // Whether the input has ended and no line is left.
-    pub fn is_over(self, some: bool) -> bool
-        ensures { result ≡ over_of self some }
+    pub fn is_over(self, line: Option<Span>) -> bool
+        ensures { result ≡ over_of self line }
     {
-        if some { false } else { !self.came }
+        line.is_none() && !self.came
     }
 
     // Past a line that ends at `to`, and its line feed.
@@ -101,23 +85,25 @@ impl Input {
         ensures { result ≡ past_of self to }
     {
         Input {
-            start: if to < self.end { to + 1 } else { self.end },
-            end: self.end,
+            start: to.saturating_add(1).min(self.end),
             dropped: false,
-            came: self.came,
+            ..self
         }
     }
 
     // Room for more: what is not yet taken moves to the front. Where it fills the buffer, bytes that say nothing are
     // left out of it, and it is dropped if over half of the buffer is taken still.
+    #[tactic(auto, using(crate::proofs::RoomLaws::rooms))]
     pub(crate) fn with_room(self, buf: &mut [u8]) -> Input
         ensures value { result ≡ room_of buf.old self }
         ensures buf_after { buf.new ≡ fronted buf.old self }
     {
         let size = buf.len();
-        let held = count(size, self.start, self.end);
+        let end = self.end.min(size);
+        let start = self.start.min(end);
+        let held = end - start;
         if held < size {
-            move_to_front(buf, self.start, held);
+            buf.copy_within(start..end, 0);
             return Input::at_front(held, self.dropped);
         }
         let kept = squeeze(buf);
@@ -131,13 +117,11 @@ impl Input {
     pub(crate) fn fed(self, size: usize, got: usize) -> Input
         ensures { result ≡ fed_of self size got }
     {
-        let room = count(size, self.end, size);
-        let came = least(got, room);
+        let came = got.min(size.saturating_sub(self.end));
         Input {
-            start: self.start,
             end: self.end + came,
-            dropped: self.dropped,
             came: came > 0,
+            ..self
         }
     }
 }

@@ -11,11 +11,8 @@ fn read_once(from: &mut impl Read, buf: &mut [u8], end: usize) -> usize
     ensures upper_bound { result ≤ length buf.old - end }
     ensures buf_unchanged { take end buf.new ≡ take end buf.old }
 {
-    if end >= buf.len() {
-        return 0;
-    }
-    let part = &mut buf[end..];
-    from.read(part).unwrap_or(0)
+    let end = end.min(buf.len());
+    from.read(&mut buf[end..]).unwrap_or(0)
 }
 
 impl Input {
@@ -29,12 +26,12 @@ impl Input {
     }
 
     // Past a line, or after one more read where there is none.
-    pub fn onward(self, from: &mut impl Read, buf: &mut [u8], line: Span) -> Input
-        ensures { Onward line.some line.to buf.old self buf.new result }
+    pub fn onward(self, from: &mut impl Read, buf: &mut [u8], line: Option<Span>) -> Input
+        ensures { Onward line buf.old self buf.new result }
     {
-        if line.some {
-            return self.past(line.to);
+        match line {
+            Some(line) => self.past(line.to),
+            None => self.more(from, buf),
         }
-        self.more(from, buf)
     }
 }

@@ -1,13 +1,15 @@
 // Output by way of a buffer.
 #![tactic(auto)]
 
-ghost use Rattle.std.specs.Prelude.{◌≡◌, take, OnOk};
-ghost use Rattle.std.specs.Io.KnownBytes.{Appends};
+ghost use Rattle.std.specs.Prelude.{◌≡◌, ◌+◌, ◌≤◌, length, take, is_some, OnOk, IfOk};
+ghost use Rattle.std.specs.Io.KnownBytes.{Appends, Keeps};
+ghost use Rattle.outlet.specs.Texts.{Tries, Puts, held_of, known_of};
 
 use std::io;
-use std::io::Write;
+use std::io::{ErrorKind, Write};
 
 // What goes to a writer by way of a buffer, of which the bytes before `held` are held back.
+// Stays: fixed memory; std's BufWriter has its buffer on the heap.
 #[derive(Drop)]
 pub struct Outlet<W> {
     pub to: W,
@@ -31,9 +33,81 @@ impl<W: Write> Outlet<W> {
     pub fn flush(&mut self) -> io::Result<()>
         ensures sent { OnOk result (Appends (W.contents self.old.to) (W.contents self.new.to) (take self.old.held self.old.buf)) }
         ensures empty { self.new.held ≡ 0 }
+        ensures same_buf { self.new.buf ≡ self.old.buf }
     {
         let held = self.held.min(self.buf.len());
         self.held = 0;
         self.to.write_all(&self.buf[..held])
+    }
+
+    // Puts a text behind what is held back, and tells whether it has room there.
+    fn append<F: FnMut(&mut [u8]) -> Option<usize>>(&mut self, text: &mut F) -> bool
+        requires { F.IsAlwaysCallable text.old }
+        ensures callable { F.IsAlwaysCallable text.new }
+        ensures put { (size : _) × Tries F.FnMut text.old self.old size text.new self.new × (result ≡ is_some size) }
+    {
+        let held = self.held.min(self.buf.len());
+        let size = text(&mut self.buf[held..]);
+        self.held = held + size.unwrap_or(0).min(self.buf.len() - held);
+        size.is_some()
+    }
+
+    // Puts a text: `text` puts it at the front of a free part of the buffer, and answers how long it is, or None where
+    // it has no room there. What is held back is then written out, and the whole buffer is free.
+    pub fn put<F: FnMut(&mut [u8]) -> Option<usize>>(&mut self, mut text: F) -> io::Result<()>
+        requires { F.IsAlwaysCallable text }
+        ensures { Puts F.FnMut W.contents text self.old result self.new }
+    {
+        if !self.append(&mut text) {
+            self.flush()?;
+            self.append(&mut text);
+        }
+        Ok(())
+    }
+
+    // Holds back bytes that have room.
+    fn hold(&mut self, bytes: &[u8])
+        requires { self.old.held + length bytes.now ≤ 65536 }
+        ensures { Appends (known_of W.contents self.old) (known_of W.contents self.new) bytes.now }
+    {
+        let end = self.held + bytes.len();
+        self.buf[self.held..end].copy_from_slice(bytes);
+        self.held = end;
+    }
+
+    // Writes out some of what is held back, and moves the rest to the front.
+    fn write_some(&mut self) -> io::Result<usize>
+        ensures sent { IfOk result (λ n. self.new.held + n ≡ held_of self.old) }
+        ensures bytes { Keeps (known_of W.contents self.old) (known_of W.contents self.new) }
+    {
+        let held = self.held.min(self.buf.len());
+        let sent = self.to.write(&self.buf[..held])?;
+        self.buf.copy_within(sent..held, 0);
+        self.held = held - sent;
+        Ok(sent)
+    }
+}
+
+impl<W: Write> Write for Outlet<W> {
+    // What was written out, and then what is held back.
+    ghost contents = { known_of W.contents };
+
+    // Holds back what has room; where nothing has, some of what is held back is written out first.
+    fn write(&mut self, bytes: &[u8]) -> io::Result<usize> {
+        if self.held >= self.buf.len() {
+            self.write_some()?;
+        }
+        let size = bytes.len().min(self.buf.len() - self.held);
+        self.hold(&bytes[..size]);
+        Ok(size)
+    }
+
+    fn flush(&mut self) -> io::Result<()> {
+        while self.held > 0 {
+            if self.write_some()? == 0 {
+                return Err(ErrorKind::WriteZero.into());
+            }
+        }
+        self.to.flush()
     }
 }

@@ -1,23 +1,23 @@
 // Reads texts of controllers from standard input, one a line, and prints what each reads as.
 #![tactic(auto)]
 
-mod output;
 mod readings;
 
 use lines::{Input, Span};
 use outlet::Outlet;
 use std::io;
-use std::io::{Stdin, Stdout};
+use std::io::{Stdin, Stdout, Write};
 
 // Puts what a line reads as. Where there is no line yet, all output is written before more is read.
-fn answer(inp: &[u8], line: Span, out: &mut Outlet<Stdout>) -> io::Result<()> {
-    if !line.some {
+fn answer(inp: &[u8], line: Option<Span>, out: &mut Outlet<Stdout>) -> io::Result<()> {
+    let Some(line) = line else {
         return out.flush();
-    }
+    };
     if line.whole {
-        return readings::put_reading(out, lines::text(inp, line));
+        readings::put_reading(out, lines::text(inp, line))
+    } else {
+        out.write_all(b"too long\n")
     }
-    output::put_text(out, b"too long\n")
 }
 
 // Reads and answers until the input ends. A proved loop has to end, and nothing says that the input does: the steps are
@@ -27,7 +27,7 @@ fn serve(from: &mut Stdin, inp: &mut [u8], out: &mut Outlet<Stdout>) -> io::Resu
     for _ in 0..u64::MAX {
         let line = input.next(inp);
         answer(inp, line, out)?;
-        if input.is_over(line.some) {
+        if input.is_over(line) {
             return Ok(());
         }
         input = input.onward(from, inp, line);

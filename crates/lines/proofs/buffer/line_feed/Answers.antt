@@ -1,19 +1,9 @@
-use Rattle.std.proofs.Common.{◌∙◌}
-use Rattle.lines.proofs.FeedLaws.{feed-past, feed-none, feed-here, feed-on}
+use Rattle.std.proofs.Common.{rules, tests}
+use Rattle.std.proofs.lemmas.Iterator.{YieldsList-from_slice}
+use Rattle.std.proofs.lemmas.Iterator.Search.{position_from_yields_List}
+use Rattle.lines.specs.Spans.{is_line_feed}
 use Rattle.lines.proofs.buffer.line_feed.Goals as goal
 
-pub returns-then-i-buf : goal.returns-then-i-buf
-returns-then-i-buf c = feed-past c.loop-i.i c.args.to c.args.buf.now c.if-i-buf.true ∙ c.loop-i.invariant
-
-pub returns-then-buf-i-eq10 : goal.returns-then-buf-i-eq10
-returns-then-buf-i-eq10 c =
-    feed-here c.loop-i.i c.args.to c.args.buf.now c.loop-i-test.true c.if-i-buf.false c.if-buf-i-eq10.true
-    ∙ c.loop-i.invariant
-
-pub loop-i-preserved : goal.loop-i-preserved
-loop-i-preserved c =
-    feed-on c.loop-i.i c.args.to c.args.buf.now c.loop-i-test.true c.if-i-buf.false c.if-buf-i-eq10.false
-    ∙ c.loop-i.invariant
-
 pub returns : goal.returns
-returns c = feed-none c.loop-i.i c.args.to c.args.buf.now c.loop-i-test.false ∙ c.loop-i.invariant
+returns c =
+    position_from_yields_List is_line_feed _ _ _ c.position.ensures.ran (YieldsList-from_slice c.args.bytes.now cc) (λ x b q k. search (rules, tests))
