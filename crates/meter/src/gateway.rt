@@ -1,160 +1,143 @@
-// What each command does to the line, and what is printed of it.
-use super::output;
-use answers::{Front, Tick};
-use line::{Answered, Line, Verdict};
+// What each line of a script does to the line, and what is printed of it.
+use super::waiting::Waiting;
+use descriptor::TariffPart;
+use line::{Answered, Line};
 use outlet::Outlet;
 use phase_lines::Phases;
 use printing::Answer;
 use script::Command;
-use state::{Moved, State};
+use state::Moved;
 use std::io;
 use std::io::Stdout;
 
-// A gateway: its line, once a configuration was accepted.
+// A gateway: its line, once a configuration was accepted, and the descriptor that waits for phase lines, if one does.
 #[derive(Clone, Copy)]
 pub struct Gateway {
-    pub made: bool,
-    pub line: Line,
+    pub line: Option<Line>,
+    pub waiting: Option<Waiting>,
 }
 
-fn answer_of(verdict: Verdict) -> Answer {
-    match verdict {
-        Ok(cancelled) => Answer::Ok(cancelled),
-        Err(why) => Answer::No(why.number()),
-    }
+// Puts an answer.
+fn put_answer(out: &mut Outlet<Stdout>, answer: Answer) -> io::Result<()> {
+    out.put(|free| printing::put_answer(free, 0, answer))
 }
 
-fn is_accepted(verdict: Verdict) -> bool {
-    match verdict {
-        Ok(_) => true,
-        Err(_) => false,
-    }
-}
-
-// Whether a line is made after a command that was answered so.
-fn is_made(made: bool, verdict: Verdict) -> bool {
-    if made { true } else { is_accepted(verdict) }
-}
-
-// A new line. A refused configuration leaves the old one.
-fn configure(line: Line, pulse: u32, gap: u32, clock: u32) -> Answered {
-    let answer = Line::make(pulse, gap, clock);
-    let verdict = answer.verdict;
-    if is_accepted(verdict) {
-        answer
-    } else {
-        Answered { line, verdict }
-    }
-}
-
-fn is_front(front: Front) -> bool {
-    match front {
-        Front::None => false,
-        Front::Tariff => true,
-        Front::Burst => true,
-    }
-}
-
-// Whether a tick tells something: a completion, a front or a report.
-fn tells(tick: Tick) -> bool {
-    let front = tick.front;
-    (tick.tariff | tick.burst) | (tick.report | is_front(front))
-}
-
-// A tick of a line in this state.
-fn moved(line: Line, state: State) -> Moved {
-    let now = Line { state, ..line };
-    now.moved()
-}
-
-// Puts what a tick tells, if it tells something.
-fn put_moved(out: &mut Outlet<Stdout>, m: Moved) -> io::Result<()> {
-    let tick = m.tick;
-    if tells(tick) {
-        let state = m.state;
-        let counters = state.counters;
-        return output::put_tick(out, state.clock, counters.cpc, tick);
-    }
-    Ok(())
-}
-
-// Ticks a line n times, which is made then, and puts what each tick tells. The line itself is looked at only where a
-// tick is busy.
-fn run(line: Line, n: u32, out: &mut Outlet<Stdout>) -> io::Result<Gateway> {
-    let pulse = line.pulse;
-    let spacing = line.spacing;
-    let mut state = line.state;
-    let mut i: u32 = 0;
-    while i < n {
-        let q = state.quick(pulse, spacing);
-        if q.busy {
-            let m = moved(line, state);
-            state = m.state;
-            put_moved(out, m)?;
-        } else {
-            let m = q.moved;
-            state = m.state;
-        }
-        i += 1;
-    }
-    Ok(Gateway {
-        made: true,
-        line: Line { state, ..line },
-    })
+// Puts what a tick tells.
+fn put_moved(out: &mut Outlet<Stdout>, moved: Moved) -> io::Result<()> {
+    let state = moved.state;
+    out.put(|free| printing::put_tick(free, 0, state.clock, state.counters.cpc, moved.tick))
 }
 
 impl Gateway {
     pub(crate) fn new() -> Gateway {
-        let blank = Line::make(0, 0, 0);
-        let line = blank.line;
-        Gateway { made: false, line }
-    }
-
-    // With `bad` put.
-    fn refused(self, out: &mut Outlet<Stdout>) -> io::Result<Gateway> {
-        output::put_answer(out, Answer::Bad)?;
-        Ok(self)
-    }
-
-    // With the line that a command handed back, and its answer put.
-    fn answered(self, answer: Answered, out: &mut Outlet<Stdout>) -> io::Result<Gateway> {
-        let line = answer.line;
-        let verdict = answer.verdict;
-        output::put_answer(out, answer_of(verdict))?;
-        Ok(Gateway {
-            made: is_made(self.made, verdict),
-            line,
-        })
-    }
-
-    // Does what a command asks for, a descriptor with the phases that were read.
-    pub(crate) fn obey(
-        self,
-        command: Command,
-        phases: Phases,
-        out: &mut Outlet<Stdout>,
-    ) -> io::Result<Gateway> {
-        let line = self.line;
-        match command {
-            Command::Bad => self.refused(out),
-            Command::Configure { pulse, gap, clock } => {
-                self.answered(configure(line, pulse, gap, clock), out)
-            }
-            Command::Period(rp) => self.answered(line.set_period(rp), out),
-            Command::NoPeriod => self.answered(line.clear_period(), out),
-            Command::Describe {
-                tariff,
-                phases: _,
-                burst,
-            } => self.answered(phases.describe(line, tariff, burst), out),
-            Command::OnHook(event) => self.answered(line.hook(event), out),
-            Command::Run(ticks) => run(line, ticks, out),
+        Gateway {
+            line: None,
+            waiting: None,
         }
     }
 
-    // With all output written.
-    pub(crate) fn flushed(self, out: &mut Outlet<Stdout>) -> io::Result<Gateway> {
-        out.flush()?;
-        Ok(self)
+    // Takes the line that a command handed back, and puts its answer.
+    fn answered(&mut self, answer: Answered, out: &mut Outlet<Stdout>) -> io::Result<()> {
+        self.line = Some(answer.line);
+        put_answer(out, Answer::from(answer.verdict))
+    }
+
+    // Makes a new line. A refused configuration leaves the old one.
+    fn configure(
+        &mut self,
+        pulse: u32,
+        gap: u32,
+        clock: u32,
+        out: &mut Outlet<Stdout>,
+    ) -> io::Result<()> {
+        let made = Line::make(pulse, gap, clock);
+        if made.verdict.is_ok() {
+            self.line = Some(made.line);
+        }
+        put_answer(out, Answer::from(made.verdict))
+    }
+
+    // Ticks the line n times, and puts what each tick tells. All of it is looked at only where a tick is busy.
+    fn run(&mut self, mut line: Line, n: u32, out: &mut Outlet<Stdout>) -> io::Result<()> {
+        for _ in 0..n {
+            let quick = line.state.quick(line.pulse, line.spacing);
+            let moved = quick.unwrap_or_else(|| line.moved());
+            line.state = moved.state;
+            if quick.is_none() {
+                put_moved(out, moved)?;
+            }
+        }
+        self.line = Some(line);
+        Ok(())
+    }
+
+    // Obeys a command on the line. A descriptor may wait for phase lines first.
+    fn on(&mut self, line: Line, command: Command, out: &mut Outlet<Stdout>) -> io::Result<()> {
+        match command {
+            Command::Configure { pulse, gap, clock } => self.configure(pulse, gap, clock, out),
+            Command::Period(rp) => self.answered(line.set_period(rp), out),
+            Command::NoPeriod => self.answered(line.clear_period(), out),
+            Command::Describe { phases, burst, .. } if phases > 0 => {
+                self.waiting = Some(Waiting::new(phases, burst));
+                Ok(())
+            }
+            Command::Describe { tariff, burst, .. } => {
+                let none = Phases::new();
+                self.answered(line.describe(none.descriptor(tariff, burst)), out)
+            }
+            Command::OnHook(event) => self.answered(line.hook(event), out),
+            Command::Run(ticks) => self.run(line, ticks, out),
+        }
+    }
+
+    // Obeys a command where no line is made: only a configuration is taken.
+    fn begin(&mut self, command: Command, out: &mut Outlet<Stdout>) -> io::Result<()> {
+        if let Command::Configure { pulse, gap, clock } = command {
+            return self.configure(pulse, gap, clock, out);
+        }
+        put_answer(out, Answer::Bad)
+    }
+
+    // Obeys what a line of the script asks, which is None where it is bad.
+    fn obey(&mut self, command: Option<Command>, out: &mut Outlet<Stdout>) -> io::Result<()> {
+        let Some(command) = command else {
+            return put_answer(out, Answer::Bad);
+        };
+        match self.line {
+            Some(line) => self.on(line, command, out),
+            None => self.begin(command, out),
+        }
+    }
+
+    // Obeys a descriptor that waits, once its phase lines have come.
+    fn gather(&mut self, waiting: Waiting, out: &mut Outlet<Stdout>) -> io::Result<()> {
+        if waiting.missing > 0 {
+            self.waiting = Some(waiting);
+            return Ok(());
+        }
+        self.waiting = None;
+        match self.line {
+            Some(line) if !waiting.phases.bad => {
+                let given = waiting.phases.descriptor(TariffPart::Phased, waiting.burst);
+                self.answered(line.describe(given), out)
+            }
+            _ => put_answer(out, Answer::Bad),
+        }
+    }
+
+    // Reads a line of the script and obeys it: a command, or a phase line that a descriptor waits for.
+    pub(crate) fn read(&mut self, text: &[u8], out: &mut Outlet<Stdout>) -> io::Result<()> {
+        match self.waiting {
+            Some(waiting) => self.gather(waiting.with(text), out),
+            None => self.obey(script::read_command(text), out),
+        }
+    }
+
+    // At the end of the input, a descriptor whose phase lines are missing is bad.
+    pub(crate) fn close(self, out: &mut Outlet<Stdout>) -> io::Result<()> {
+        if self.waiting.is_some() {
+            put_answer(out, Answer::Bad)?;
+        }
+        out.flush()
     }
 }

@@ -1,0 +1,130 @@
+// What each line of a script does to the card.
+use super::cards::{Card, put_answer};
+use super::groups;
+use super::waiting::Waiting;
+use descriptor::{Descriptor, TariffPart};
+use line::{Audited, Line};
+use outlet::Outlet;
+use phase_lines::Phases;
+use printing::Answer;
+use script::{CardCommand, Command, Giving};
+use std::io;
+use std::io::Stdout;
+
+// Puts the counters of a line.
+fn put_counters(out: &mut Outlet<Stdout>, audit: Audited) -> io::Result<()> {
+    out.put(|free| printing::put_counters(free, 0, audit.cpc, audit.pcslr))
+}
+
+// The text that stands in a line of a script from a byte on.
+fn text_from(text: &[u8], from: usize) -> Descriptor<'_> {
+    Descriptor::Text(text.get(from..).unwrap_or(&[]))
+}
+
+impl Card {
+    // Obeys a command on the line at a place. A descriptor may wait for phase lines first.
+    fn on(
+        &mut self,
+        place: u32,
+        line: Line,
+        giving: Giving,
+        command: Command,
+        out: &mut Outlet<Stdout>,
+    ) -> io::Result<()> {
+        match command {
+            Command::Period(rp) => self.answered(place, line.set_period(rp), out),
+            Command::NoPeriod => self.answered(place, line.clear_period(), out),
+            Command::Describe { phases, burst, .. } if phases > 0 => {
+                self.waiting = Some(Waiting::new(phases, place, giving, burst));
+                Ok(())
+            }
+            Command::Describe { tariff, burst, .. } => {
+                let none = Phases::new();
+                self.give(place, line, giving, none.descriptor(tariff, burst), out)
+            }
+            Command::OnHook(event) => self.answered(place, line.hook(event), out),
+            Command::Configure { .. } | Command::Run(_) => put_answer(out, Answer::Bad),
+        }
+    }
+
+    // Obeys a command at a place of the row, which has a line.
+    fn at(
+        &mut self,
+        place: u32,
+        line: Line,
+        command: CardCommand,
+        text: &[u8],
+        out: &mut Outlet<Stdout>,
+    ) -> io::Result<()> {
+        match command {
+            CardCommand::On {
+                giving,
+                command,
+                ..
+            } => self.on(place, line, giving, command, out),
+            CardCommand::Audit(_) => put_counters(out, line.audit()),
+            CardCommand::Text { giving, from, .. } => {
+                self.give(place, line, giving, text_from(text, from), out)
+            }
+            _ => put_answer(out, Answer::Bad),
+        }
+    }
+
+    // Obeys a command, which stands in this text. One at a place outside the row is bad.
+    fn obey(
+        &mut self,
+        command: CardCommand,
+        text: &[u8],
+        out: &mut Outlet<Stdout>,
+    ) -> io::Result<()> {
+        match command {
+            CardCommand::Configure { pulse, gap, clock } => self.configure(pulse, gap, clock, out),
+            CardCommand::Tick(n) => self.run(n, out),
+            CardCommand::Group { interval } => {
+                let verdict = groups::rate(&mut self.lines, self.count, text, interval);
+                put_answer(out, Answer::from(verdict))
+            }
+            CardCommand::On { place, .. }
+            | CardCommand::Audit(place)
+            | CardCommand::Text { place, .. } => match self.line_at(place) {
+                Some(line) => self.at(place, line, command, text, out),
+                None => put_answer(out, Answer::Bad),
+            },
+        }
+    }
+
+    // Obeys a descriptor that waits, once its phase lines have come.
+    fn gather(&mut self, waiting: Waiting, out: &mut Outlet<Stdout>) -> io::Result<()> {
+        if waiting.missing > 0 {
+            self.waiting = Some(waiting);
+            return Ok(());
+        }
+        self.waiting = None;
+        match self.line_at(waiting.place) {
+            Some(line) if !waiting.phases.bad => {
+                let given = waiting.phases.descriptor(TariffPart::Phased, waiting.burst);
+                self.give(waiting.place, line, waiting.giving, given, out)
+            }
+            _ => put_answer(out, Answer::Bad),
+        }
+    }
+
+    // Reads a line of the script and obeys it: a command, or a phase line that a descriptor waits for.
+    pub(crate) fn read(&mut self, text: &[u8], out: &mut Outlet<Stdout>) -> io::Result<()> {
+        if let Some(waiting) = self.waiting {
+            return self.gather(waiting.with(text), out);
+        }
+        match script::read_card(text) {
+            Some(command) => self.obey(command, text, out),
+            None => put_answer(out, Answer::Bad),
+        }
+    }
+
+    // At the end of the input, a descriptor whose phase lines are missing is bad.
+    pub(crate) fn close(&self, out: &mut Outlet<Stdout>) -> io::Result<()> {
+        if self.waiting.is_some() {
+            put_answer(out, Answer::Bad)?;
+        }
+        out.flush()
+    }
+}
