@@ -1,12 +1,12 @@
 // What each line of a script does to the line, and what is printed of it.
 use super::waiting::Waiting;
+use answers::Tick;
 use descriptor::TariffPart;
 use line::{Answered, Line};
 use outlet::Outlet;
 use phase_lines::Phases;
 use printing::Answer;
 use script::Command;
-use state::Moved;
 use std::io;
 use std::io::Stdout;
 
@@ -22,10 +22,30 @@ fn put_answer(out: &mut Outlet<Stdout>, answer: Answer) -> io::Result<()> {
     out.put(|free| printing::put_answer(free, 0, answer))
 }
 
-// Puts what a tick tells.
-fn put_moved(out: &mut Outlet<Stdout>, moved: Moved) -> io::Result<()> {
-    let state = moved.state;
-    out.put(|free| printing::put_tick(free, 0, state.clock, state.counters.cpc, moved.tick))
+// Puts what a tick tells, if it tells something.
+fn put_tick(out: &mut Outlet<Stdout>, clock: u32, cpc: u32, tick: Tick) -> io::Result<()> {
+    if tick == Tick::default() {
+        return Ok(());
+    }
+    out.put(|free| printing::put_tick(free, 0, clock, cpc, tick))
+}
+
+// The line after n ticks, of which what each tells is put. All of it is looked at only where a tick is busy.
+// Stays: the state beside the line; ticks on the field `line.state` itself took twice the time.
+fn run(line: Line, n: u32, out: &mut Outlet<Stdout>) -> io::Result<Line> {
+    let pulse = line.pulse;
+    let spacing = line.spacing;
+    let mut state = line.state;
+    for _ in 0..n {
+        if let Some(quiet) = state.quick(pulse, spacing) {
+            state = quiet.state;
+        } else {
+            let busy = Line { state, ..line }.moved();
+            state = busy.state;
+            put_tick(out, state.clock, state.counters.cpc, busy.tick)?;
+        }
+    }
+    Ok(Line { state, ..line })
 }
 
 impl Gateway {
@@ -57,20 +77,6 @@ impl Gateway {
         put_answer(out, Answer::from(made.verdict))
     }
 
-    // Ticks the line n times, and puts what each tick tells. All of it is looked at only where a tick is busy.
-    fn run(&mut self, mut line: Line, n: u32, out: &mut Outlet<Stdout>) -> io::Result<()> {
-        for _ in 0..n {
-            let quick = line.state.quick(line.pulse, line.spacing);
-            let moved = quick.unwrap_or_else(|| line.moved());
-            line.state = moved.state;
-            if quick.is_none() {
-                put_moved(out, moved)?;
-            }
-        }
-        self.line = Some(line);
-        Ok(())
-    }
-
     // Obeys a command on the line. A descriptor may wait for phase lines first.
     fn on(&mut self, line: Line, command: Command, out: &mut Outlet<Stdout>) -> io::Result<()> {
         match command {
@@ -86,7 +92,10 @@ impl Gateway {
                 self.answered(line.describe(none.descriptor(tariff, burst)), out)
             }
             Command::OnHook(event) => self.answered(line.hook(event), out),
-            Command::Run(ticks) => self.run(line, ticks, out),
+            Command::Run(ticks) => {
+                self.line = Some(run(line, ticks, out)?);
+                Ok(())
+            }
         }
     }
 
