@@ -1,5 +1,6 @@
 -- A card: lines in a row and their dispatcher, the calls on it, and the history of a list of them.
-use Rattle.std.specs.Prelude.{cond, List, [], ◌∷◌, map, ℕ, suc, min, ltb, eqb, length, take, Option, Some, None, Ok, Err}
+use Rattle.std.specs.Prelude.{cond, List, [], ◌∷◌, map, ℕ, suc, min, ltb, eqb, length, take}
+use Rattle.std.specs.Prelude.{Option, Some, None, Ok, Err}
 use Rattle.answers.specs.Fronts.{silent}
 use Rattle.answers.specs.declared.Tick.{Tick}
 use Rattle.phase_lists.specs.Lists.{no_lists}

@@ -1,5 +1,6 @@
 -- Examples of notices, and of rate commands for a group, computed.
-use Rattle.std.specs.Prelude.{◌≡◌, refl, true, false, List, [], ◌∷◌, ◌++◌, map, reverse, ℕ, zero, suc, replicate, Option, Some, None}
+use Rattle.std.specs.Prelude.{◌≡◌, refl, true, false, List, [], ◌∷◌, ◌++◌, map, reverse, ℕ, zero, suc, replicate}
+use Rattle.std.specs.Prelude.{Option, Some, None}
 use Rattle.answers.specs.declared.Front.TheVariants.{Tariff}
 use Rattle.answers.specs.declared.Tick.{Tick}
 use Rattle.tariff.specs.Tariffs.{em_of, rate_of}
@@ -13,7 +14,8 @@ use Rattle.descriptor.specs.declared.BurstPart.TheVariants.{Keep}
 use Rattle.state.specs.States.{count_of, count_by}
 use Rattle.ticking.specs.Moves.{moved_by, since_front, burst_after}
 use Rattle.line.specs.Lines.{make_of, fresh_line, describe_of, tariff_changed, burst_changed, period_of, tick_of}
-use Rattle.dispatcher.specs.Dispatch.{nothing, notice, gather_all, waits_in, first_from, fresh_dispatcher, sent_by, after_tick}
+use Rattle.dispatcher.specs.Dispatch.{nothing, notice, gather_all, waits_in, first_from, fresh_dispatcher}
+use Rattle.dispatcher.specs.Dispatch.{sent_by, after_tick}
 use Rattle.dispatcher.specs.declared.Waiting.{Waiting}
 use Rattle.dispatcher.specs.declared.Dispatcher.{Dispatcher}
 use Rattle.dispatcher.specs.declared.Notice.{Notice}

@@ -1,5 +1,6 @@
 -- What a card's history says of each line: read from its calls, its replies and the lines' entries alone.
-use Rattle.std.specs.Prelude.{Bool, true, false, cond, ◌&&◌, List, [], ◌∷◌, ◌++◌, ℕ, ◌+◌, min, ltb, eqb, get_or, Option, Some, None}
+use Rattle.std.specs.Prelude.{Bool, true, false, cond, ◌&&◌, List, [], ◌∷◌, ◌++◌, ℕ, ◌+◌, min, ltb, eqb, get_or}
+use Rattle.std.specs.Prelude.{Option, Some, None}
 use Rattle.answers.specs.declared.Tick.{Tick}
 use Rattle.dispatcher.specs.Dispatch.{place_after}
 use Rattle.dispatcher.specs.declared.Waiting.{Waiting}

@@ -1,5 +1,6 @@
 -- Demand 3: one claim about the history of every list of calls.
-use Rattle.std.specs.Prelude.{◌≡◌, true, cond, ◌↔◌, List, [], ◌∷◌, ◌++◌, ℕ, ◌+◌, ◌-◌, ◌*◌, ◌%◌, ◌^◌, min, max, ◌≤◌, ltb, Some}
+use Rattle.std.specs.Prelude.{◌≡◌, true, cond, ◌↔◌, List, [], ◌∷◌, ◌++◌, ℕ, ◌+◌, ◌-◌, ◌*◌, ◌%◌, ◌^◌, min, max, ◌≤◌}
+use Rattle.std.specs.Prelude.{ltb, Some}
 use Rattle.demand.specs.Names.{TariffFront, BurstFront, Pulse, Stop, NoBurst, KeepBurst, Start}
 use Rattle.demand.specs.Names.{TariffPart, NoTariff, KeepTariff, Rate, Em, Phased, is_front, slot_at}
 use Rattle.demand.specs.Calls.{Call, hook, audit, Answer, accepted, counters, Entry}

@@ -1,5 +1,6 @@
 -- What a history says of the line: read from its calls and answers alone. A history is held newest first.
-use Rattle.std.specs.Prelude.{Bool, true, false, cond, ◌&&◌, ◌||◌, List, [], ◌∷◌, ℕ, ◌+◌, ◌-◌, max, leb, ltb, eqb, Option}
+use Rattle.std.specs.Prelude.{Bool, true, false, cond, ◌&&◌, ◌||◌, List, [], ◌∷◌, ℕ, ◌+◌, ◌-◌, max, leb, ltb, eqb}
+use Rattle.std.specs.Prelude.{Option}
 use Rattle.slots.specs.Slots.{Running, nothing, phased, em_at, rated, completes_at}
 use Rattle.demand.specs.Names.{Front, Tick, Phase, TariffPart, NoTariff, KeepTariff, Rate, Em, Phased, one_more}
 use Rattle.demand.specs.Names.{BurstPart, NoBurst, KeepBurst, Start, silent, if_front, if_burst, is_burst_front}

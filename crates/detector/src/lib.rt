@@ -22,6 +22,7 @@ pub struct Detector {
     // The request that is on.
     pub request: Request,
     // The last repetition interval: -1 no pulse, 0 armed, else the interval.
+    // Stays: the paper names a signed number of 32 bits with these meanings.
     pub lri: i32,
     // The pulses detected, held.
     pub cpc: u32,
@@ -32,6 +33,7 @@ pub struct Detector {
 }
 
 // What a request hands back.
+// Stays: the paper names methods that hand the detector back with the answer, and so for a tick and an audit.
 #[derive(Clone, Copy, PartialEq, Eq, Debug)]
 pub struct Requested {
     pub detector: Detector,

@@ -12,10 +12,11 @@ pub fn tick_in_place(line: &mut Line) -> Tick
     ensures told { result ≡ (tick_of line.old).tick }
     ensures moved { line.new ≡ (tick_of line.old).line }
 {
-    let moved = match line.state.quick(line.pulse, line.spacing) {
-        Some(quiet) => quiet,
-        None => line.moved(),
-    };
+    if line.state.is_quiet(line.pulse, line.spacing) {
+        line.state = line.state.waited(line.spacing);
+        return Tick::default();
+    }
+    let moved = line.moved();
     line.state = moved.state;
     moved.tick
 }

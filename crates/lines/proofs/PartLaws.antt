@@ -1,10 +1,10 @@
--- Parts of a buffer: their lengths, and the bytes that they begin with.
+-- Parts of a buffer: their lengths, and where they are empty.
 use mathlib.Core.Path.{◌≡◌, sym, ap, ◌∙◌}
 use mathlib.Core.List.{List, [], ◌∷◌}
-use Prim.Native.Nat.{ℕ, zero, suc, ◌-◌, ◌≤◌, ◌<◌, min}
+use Prim.Native.Nat.{ℕ, zero, suc, ◌-◌, ◌<◌, min}
 use native.Mathlib.Omega.{arith}
-use lib.ListN.{length, get_or, take, drop, length-take, length-drop, drop_of_length-le}
-use lib.Seq.{take-nil, drop-cons}
+use lib.ListN.{length, take, drop, length-take, length-drop}
+use lib.Seq.{take-nil}
 use mathlib.Core.Logic.{inl, inr}
 use Rattle.std.proofs.lemmas.Bool.{cases_lt}
 use Rattle.lines.specs.Spans.{part}
@@ -30,16 +30,6 @@ module _ (from to : ℕ) (l : List ℕ) where
       let n : min to (length l) - from ≡ min (to - from) (length (drop from l)) = omega (arith, length-drop from l) in
       ap (λ (k : ℕ). take k (drop from l)) n ∙ clip (to - from) (drop from l)
 
-  -- a part past the buffer is empty
-  pub part-past : length l ≤ from → part from to l ≡ []
-  unfolding part
-  part-past h = rw (drop_of_length-le l h) (take-nil (to - from))
-
-  -- and so is one that ends before it begins
-  pub part_none : to ≤ from → part from to l ≡ []
-  unfolding part
-  part_none h = let none : to - from ≡ 0 = omega arith in ap (λ (k : ℕ). take k (drop from l)) none
-
   -- a part that begins past its end or the buffer's
   pub part-empty : min to (length l) < from → part from to l ≡ []
   unfolding part
@@ -53,10 +43,3 @@ module _ (from to : ℕ) (l : List ℕ) where
     | inl h ↦ let none : e - s ≡ 0 = omega arith in ap (λ (k : ℕ). take k (drop s l)) none ∙ sym (part-empty (omega arith))
     | inr h ↦ let first : s ≡ from = omega arith in rw (first, p) part-clip
   ]
-
-  -- any other begins with its first byte
-  pub part-more : from < to → from < length l → part from to l ≡ get_or l from 0 ∷ part (suc from) to l
-  unfolding part
-  part-more h k =
-      let more : to - from ≡ suc (to - suc from) = omega arith in
-      ap (λ (n : ℕ). take n (drop from l)) more ∙ ap (take (suc (to - suc from))) (drop-cons l from 0 k)

@@ -1,6 +1,6 @@
 -- Bytes moved to the front, and the room behind them.
-use mathlib.Core.Bool.{true}
-use mathlib.Core.Path.{◌≡◌, ◌∙◌}
+use mathlib.Core.Bool.{true, false}
+use mathlib.Core.Path.{◌≡◌}
 use mathlib.Core.List.{List, [], ◌∷◌, ◌++◌}
 use Prim.Native.Nat.{ℕ, ◌-◌, ◌/◌, ◌≤◌, ◌<◌, min}
 use native.Mathlib.Nat.{zero-add}
@@ -29,17 +29,18 @@ module _ (buf : List ℕ) (i : Input) (start end : ℕ) (ends : end ≡ min i.en
   size : end - start ≡ length (held buf i)
   size = let n = length_part i.start i.end buf in omega arith
 
-  abbrev Room : List ℕ → Input → Type 0
-  Room after r = (r ≡ room_of buf i) × (after ≡ fronted buf i)
-
   -- the buffer is not full
-  pub room-free : {after : List ℕ} {r : Input} → end - start < length buf → r ≡ at_front (end - start) i.dropped
-      → after ≡ copy_within buf start end 0 → Room after r
-  room-free h g f =
-      let short = lt-leb (length buf) (length (held buf i)) (omega (arith, size)) in
-      let moved = part-within i.start i.end buf start end ends starts in
-      (g ∙ rw (short, size), f ∙ rw (short, zero-add, moved, size))
+  module _ (h : end - start < length buf) where
+    short : is_full buf i ≡ false
+    short = lt-leb (length buf) (length (held buf i)) (omega (arith, size))
 
+    pub room-free : room_of buf i ≡ at_front (end - start) i.dropped
+    room-free = rw (short, size)
+
+    pub front-free : fronted buf i ≡ copy_within buf start end 0
+    front-free = let moved = part-within i.start i.end buf start end ends starts in rw (short, zero-add, moved, size)
+
+  -- it is full
   module _ (h : length buf ≤ end - start) where
     fills : is_full buf i ≡ true
     fills = le-leb (length buf) (length (held buf i)) (omega (arith, size, h))
@@ -47,15 +48,15 @@ module _ (buf : List ℕ) (i : Input) (start end : ℕ) (ends : end ≡ min i.en
     all : held buf i ≡ buf
     all = full i.start i.end buf (omega (arith, size, h))
 
-    module _ {k : ℕ} {after : List ℕ} {r : Input} (e : k ≡ length (squeezed buf)) (f : after ≡ squeezed buf ++ drop k buf) where
-      -- it is full, and over half of it says something
-      pub room-long : length buf / 2 < k → r ≡ at_front 0 true → Room after r
-      room-long l g =
-          let long = lt-ltb (length buf / 2) (length (squeezed buf)) (rw e at l) in
-          (g ∙ rw (fills, all, long), f ∙ rw (fills, all, e))
+    pub front-full : fronted buf i ≡ squeezed buf ++ drop (length (squeezed buf)) buf
+    front-full = rw (fills, all)
 
-      -- it is full, and half of it or less does
-      pub room-squeezed : k ≤ length buf / 2 → r ≡ at_front k i.dropped → Room after r
-      room-squeezed l g =
-          let short = le-ltb (length buf / 2) (length (squeezed buf)) (rw e at l) in
-          (g ∙ rw (fills, all, short, e), f ∙ rw (fills, all, e))
+    -- over half of it says something
+    pub room-long : length buf / 2 < length (squeezed buf) → room_of buf i ≡ at_front 0 true
+    room-long l = let long = lt-ltb (length buf / 2) (length (squeezed buf)) l in rw (fills, all, long)
+
+    -- half of it or less does
+    pub room-squeezed : length (squeezed buf) ≤ length buf / 2 → room_of buf i ≡ at_front (length (squeezed buf)) i.dropped
+    room-squeezed l = let less = le-ltb (length buf / 2) (length (squeezed buf)) l in rw (fills, all, less)
+
+pub ruleset rooms = (room-free, front-free, front-full, room-long, room-squeezed)

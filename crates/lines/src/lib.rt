@@ -85,7 +85,7 @@ impl Input {
         ensures { result ≡ past_of self to }
     {
         Input {
-            start: if to < self.end { to + 1 } else { self.end },
+            start: to.saturating_add(1).min(self.end),
             dropped: false,
             ..self
         }
@@ -93,6 +93,7 @@ impl Input {
 
     // Room for more: what is not yet taken moves to the front. Where it fills the buffer, bytes that say nothing are
     // left out of it, and it is dropped if over half of the buffer is taken still.
+    #[tactic(auto, using(crate::proofs::RoomLaws::rooms))]
     pub(crate) fn with_room(self, buf: &mut [u8]) -> Input
         ensures value { result ≡ room_of buf.old self }
         ensures buf_after { buf.new ≡ fronted buf.old self }

@@ -1,6 +1,6 @@
 -- What is noted of a text, piece by piece: faults, and the values of each name.
-use Rattle.std.specs.Prelude.{ℕ, ◌+◌, ◌*◌, Bool, true, false, cond, not, ◌||◌, List, [], ◌∷◌, eqb, ltb, get_or, set}
-use Rattle.std.specs.Prelude.{replicate, Option, Some, None}
+use Rattle.std.specs.Prelude.{ℕ, ◌+◌, Bool, true, false, cond, not, ◌||◌, List, [], ◌∷◌, eqb, ltb, get_or, set}
+use Rattle.std.specs.Prelude.{replicate, min, take, Option, Some, None}
 use Rattle.grammar.specs.Grammar.{bytes}
 use Rattle.scanner.specs.Codes.{code_of}
 use Rattle.grammar.specs.Meaning.{Known, ◌↣◌, unknown, known_signals, items_of, keep_slot, is_list}
@@ -8,6 +8,7 @@ use Rattle.scanner.specs.declared.places.Place.{Place}
 use Rattle.scanner.specs.declared.places.Place.TheVariants.{ToName, ToValue}
 use Rattle.scanner.specs.declared.Token.{Token}
 use Rattle.scanner.specs.declared.Token.TheVariants.{Name, Number, Ka, From}
+use Rattle.notes.specs.declared.values.Values.{Values}
 use Rattle.notes.specs.declared.Notes.{Notes}
 
 -- ---- names
@@ -25,43 +26,50 @@ item_slot s c = slot_in (items_of s) c
 
 -- ---- notes
 
+-- of a name that was not given
+abbrev pub no_values : Values
+no_values = record { count = 0; items = replicate 9 0 }
+
+-- a value more: past nine it is left out
+abbrev pub pushed : Values → ℕ → Values
+pushed vs v = cond (ltb vs.count 9) (record { count = vs.count + 1; items = set vs.items vs.count v }) vs
+
+-- those that are kept
+abbrev pub kept : Values → List ℕ
+kept vs = take (min vs.count 9) vs.items
+
+abbrev pub values_at : List Values → ℕ → Values
+values_at l s = get_or l s no_values
+
 abbrev pub no_notes : Notes
-no_notes = record { bad = false; signal = unknown; slot = unknown; counts = replicate 18 0; values = replicate 162 0 }
+no_notes = record { bad = false; signal = unknown; slot = unknown; values = replicate 18 no_values }
 
-abbrev pub count_in : List ℕ → ℕ → ℕ
-count_in c s = cond (ltb s 18) (get_or c s 0) 0
+abbrev pub count_in : List Values → ℕ → ℕ
+count_in l s = cond (ltb s 18) (values_at l s).count 0
 
-abbrev pub has_in : List ℕ → ℕ → Bool
-has_in c s = ltb 0 (count_in c s)
+-- shut, or it would be written out wherever it stands
+unfoldable pub has_in : List Values → ℕ → Bool
+has_in l s = ltb 0 (count_in l s)
 
 -- with a fault, if there is one
 abbrev pub marked_of : Notes → Bool → Notes
-marked_of n t = record { bad = n.bad || t; signal = n.signal; slot = n.slot; counts = n.counts; values = n.values }
+marked_of n t = record { bad = n.bad || t; signal = n.signal; slot = n.slot; values = n.values }
 
 -- with a name: a fault where it is unknown, or was there before
 abbrev pub touch_of : Notes → ℕ → Notes
 touch_of n s =
-    record {
-      bad = n.bad || (eqb s unknown || has_in n.counts s);
-      signal = n.signal;
-      slot = s;
-      counts = n.counts;
-      values = n.values;
-    }
+    record { bad = n.bad || (eqb s unknown || has_in n.values s); signal = n.signal; slot = s; values = n.values }
 
--- a value of the slot: past nine it is left out
+-- a value of the slot
 abbrev pub stored_of : Notes → ℕ → Notes
 stored_of n v =
     cond (ltb n.slot 18)
-    (cond (ltb (get_or n.counts n.slot 0) 9)
     (record {
       bad = n.bad;
       signal = n.signal;
       slot = n.slot;
-      counts = set n.counts n.slot (get_or n.counts n.slot 0 + 1);
-      values = set n.values (n.slot * 9 + get_or n.counts n.slot 0) v;
+      values = set n.values n.slot (pushed (values_at n.values n.slot) v);
     })
-    n)
     n
 
 -- a number: a fault where it is above the largest
@@ -69,7 +77,7 @@ abbrev pub value_of : Notes → ℕ → Notes
 value_of n v = cond (ltb 4_294_967_295 v) (marked_of n true) (stored_of n v)
 
 abbrev pub with_signal : Notes → ℕ → Notes
-with_signal n s = record { bad = n.bad; signal = s; slot = n.slot; counts = n.counts; values = n.values }
+with_signal n s = record { bad = n.bad; signal = s; slot = n.slot; values = n.values }
 
 -- a signal's name; an item's; KA; a number that is a value; a list
 abbrev pub signal_of : Notes → ℕ → Notes

@@ -5,18 +5,19 @@ ghost use Rattle.std.specs.Prelude.{◌≡◌};
 ghost use Rattle.notes.specs.Noting.{no_notes, has_in, marked_of, touch_of, stored_of, value_of, signal_of, keep_of, note_of};
 
 mod names;
+pub mod slots;
+mod values;
 
 use scanner::{Place, Token};
+pub use values::Values;
 
-// Whether a fault was met; the slots of the signal and of the name that is being read; how many values each of the 18
-// slots has, and nine places for the values of each.
+// Whether a fault was met; the slots of the signal and of the name that is being read; the values of each of the 18 slots.
 #[derive(Clone, Copy)]
 pub struct Notes {
     pub bad: bool,
     pub signal: usize,
     pub slot: usize,
-    pub counts: [usize; 18],
-    pub values: [u32; 162],
+    pub values: [Values; 18],
 }
 
 impl Notes {
@@ -26,18 +27,18 @@ impl Notes {
     {
         Notes {
             bad: false,
-            signal: names::UNKNOWN,
-            slot: names::UNKNOWN,
-            counts: [0; 18],
-            values: [0; 162],
+            signal: slots::UNKNOWN,
+            slot: slots::UNKNOWN,
+            values: [Values::none(); 18],
         }
     }
 
     // Whether a name was given.
+    #[tactic(auto, unfolding(crate::specs::Noting::has_in))]
     pub fn has(&self, slot: usize) -> bool
-        ensures { result ≡ has_in self.now.counts slot }
+        ensures { result ≡ has_in self.now.values slot }
     {
-        slot < 18 && self.counts[slot] > 0
+        slot < 18 && self.values[slot].count > 0
     }
 
     // Notes a fault, if there is one.
@@ -51,21 +52,16 @@ impl Notes {
     fn touch(&mut self, slot: usize)
         ensures { self.new ≡ touch_of self.old slot }
     {
-        self.mark((slot == names::UNKNOWN) | self.has(slot));
+        self.mark((slot == slots::UNKNOWN) | self.has(slot));
         self.slot = slot;
     }
 
-    // Stores a value of the slot. Past nine it is left out.
+    // Stores a value of the slot.
     fn store(&mut self, v: u32)
         ensures { self.new ≡ stored_of self.old v }
     {
-        let slot = self.slot;
-        if slot < 18 {
-            let count = self.counts[slot];
-            if count < 9 {
-                self.values[slot * 9 + count] = v;
-                self.counts[slot] = count + 1;
-            }
+        if self.slot < 18 {
+            self.values[self.slot].push(v);
         }
     }
 

@@ -5,65 +5,81 @@ ghost use Rattle.scanner.specs.Codes.{next_letter, next_digit};
 ghost use Rattle.notes.specs.Noting.{signal_slot, item_slot, slot_in};
 ghost use Rattle.grammar.specs.Meaning.{em_items, mpb_items, phsm_items};
 
-// The slot of a name that is not known, and of the signals that are.
-pub(crate) const UNKNOWN: usize = 17;
+use super::slots;
 
-const EM: usize = 0;
+// The codes of the names, as the scanner makes them of the letters.
+// Stays: no text of a name is held, and a constant's value may hold no call that would compute its code.
+const EM: u64 = 173;
 
-const MPB: usize = 4;
+const MPB: u64 = 13826;
 
-const PHSM: usize = 8;
+const PHSM: u64 = 533101;
 
-// The code of pri.
 const PRI: u64 = 16969;
+
+const PC: u64 = 515;
+
+const BPC: u64 = 2563;
+
+const PCX: u64 = 16504;
+
+const REPX: u64 = 595480;
+
+const PCN: u64 = 16494;
+
+const REPN: u64 = 595470;
+
+const CI: u64 = 105;
+
+const PD: u64 = 516;
 
 // The slot of the signal that has this name.
 pub(crate) fn signal_slot(code: u64) -> usize
     ensures { result ≡ signal_slot code }
 {
     match code {
-        173 => EM,
-        13826 => MPB,
-        533101 => PHSM,
-        _ => UNKNOWN,
+        EM => slots::EM,
+        MPB => slots::MPB,
+        PHSM => slots::PHSM,
+        _ => slots::UNKNOWN,
     }
 }
 
-// The slots of the items of em: pri and pc.
+// The slots of the items of em.
 fn em_item(code: u64) -> usize
     ensures { result ≡ slot_in em_items code }
 {
     match code {
-        PRI => 2,
-        515 => 3,
-        _ => UNKNOWN,
+        PRI => slots::EM_PRI,
+        PC => slots::EM_PC,
+        _ => slots::UNKNOWN,
     }
 }
 
-// The slots of the items of mpb: bpc and pri.
+// The slots of the items of mpb.
 fn mpb_item(code: u64) -> usize
     ensures { result ≡ slot_in mpb_items code }
 {
     match code {
-        2563 => 6,
-        PRI => 7,
-        _ => UNKNOWN,
+        BPC => slots::MPB_BPC,
+        PRI => slots::MPB_PRI,
+        _ => slots::UNKNOWN,
     }
 }
 
-// The slots of the items of phsm: pri, pcx, repx, pcn, repn, ci and pd.
+// The slots of the items of phsm.
 fn phsm_item(code: u64) -> usize
     ensures { result ≡ slot_in phsm_items code }
 {
     match code {
-        PRI => 10,
-        16504 => 11,
-        595480 => 12,
-        16494 => 13,
-        595470 => 14,
-        105 => 15,
-        516 => 16,
-        _ => UNKNOWN,
+        PRI => slots::PRI,
+        PCX => slots::PCX,
+        REPX => slots::REPX,
+        PCN => slots::PCN,
+        REPN => slots::REPN,
+        CI => slots::CI,
+        PD => slots::PD,
+        _ => slots::UNKNOWN,
     }
 }
 
@@ -72,10 +88,10 @@ pub(crate) fn item_slot(signal: usize, code: u64) -> usize
     ensures { result ≡ item_slot signal code }
 {
     match signal {
-        EM => em_item(code),
-        MPB => mpb_item(code),
-        PHSM => phsm_item(code),
-        _ => UNKNOWN,
+        slots::EM => em_item(code),
+        slots::MPB => mpb_item(code),
+        slots::PHSM => phsm_item(code),
+        _ => slots::UNKNOWN,
     }
 }
 
@@ -83,11 +99,11 @@ pub(crate) fn item_slot(signal: usize, code: u64) -> usize
 pub(crate) fn keep_slot(signal: usize) -> usize
     ensures { result ≡ keep_slot signal }
 {
-    signal.saturating_add(1).min(UNKNOWN)
+    signal.saturating_add(1).min(slots::UNKNOWN)
 }
 
 pub(crate) fn is_list(slot: usize) -> bool
     ensures { result ≡ is_list slot }
 {
-    10 <= slot
+    slot >= slots::PRI
 }

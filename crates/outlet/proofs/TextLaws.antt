@@ -26,5 +26,5 @@ module _ {F W E : Type 0} (g : Texts F) (contents : W → Option (List ℕ)) (te
       → empty.held ≡ 0 → empty.buf ≡ mid.buf → Appends (contents mid.to) (contents empty.to) (take mid.held mid.buf)
       → Tries g text' empty size' text'' new → Puts g contents text old {E = E} (Ok tt) new
   put_twice None size' text' text'' mid empty new t e h b s u =
-      record { size = None; text' = text'; mid = mid; first = t; then = ((size', text'', empty, h, b, s, u), tt) }
+      record { size = None; text' = text'; mid = mid; first = t; then = ((size', text'', empty, (h, b, s), u), tt) }
   put_twice (Some n) size' text' text'' mid empty new t e h b s u = absurd (false≢true (sym e))

@@ -1,5 +1,6 @@
 -- A text that a closure puts into the free part of a buffer.
-use Rattle.std.specs.Prelude.{◌≡◌, ℕ, ◌+◌, ◌-◌, min, Option, Some, None, List, ◌++◌, length, take, drop, Result, Ok, OnOk, OnErr, MatchOption}
+use Rattle.std.specs.Prelude.{◌≡◌, ℕ, ◌+◌, ◌-◌, min, Option, Some, None, List, ◌++◌, length, take, drop}
+use Rattle.std.specs.Prelude.{Result, Ok, OnOk, OnErr, MatchOption}
 use Rattle.std.specs.Fn.{Mut, CalledAtMut}
 use Rattle.std.specs.Io.KnownBytes.{Appends, append_known}
 use Rattle.outlet.specs.declared.Outlet.{Outlet}
@@ -31,15 +32,21 @@ module _ {F W : Type 0} (g : Texts F) where
     pub held : new.held ≡ held_after old size
     pub to : new.to ≡ old.to
 
+  -- what is held back is written out
+  abbrev pub Sends : (W → Option (List ℕ)) → Outlet W → Outlet W → Type 0
+  Sends contents old new =
+      (new.held ≡ 0) × (new.buf ≡ old.buf) × Appends (contents old.to) (contents new.to) (take old.held old.buf)
+
   -- what is held back is written out, and then `text` is called at the whole buffer
   abbrev pub Retries : {E : Type 0} → (W → Option (List ℕ)) → F → Outlet W → Result (Unit {0}) E → Outlet W → Type 0
   Retries contents text mid result new =
-      OnOk result ((size : Option ℕ) × (text' : F) × (empty : Outlet W) × (empty.held ≡ 0) × (empty.buf ≡ mid.buf)
-      × Appends (contents mid.to) (contents empty.to) (take mid.held mid.buf) × Tries text empty size text' new)
+      OnOk result ((size : Option ℕ) × (text' : F) × (empty : Outlet W)
+      × Sends contents mid empty × Tries text empty size text' new)
       × OnErr result (new.held ≡ 0)
 
   -- `text` is called once, and again where it has no room: what was held back is written out between the calls
-  pub record Puts (contents : W → Option (List ℕ)) (text : F) (old : Outlet W) {E : Type 0} (result : Result (Unit {0}) E) (new : Outlet W) : Type 0 where
+  pub record Puts (contents : W → Option (List ℕ)) (text : F) (old : Outlet W)
+      {E : Type 0} (result : Result (Unit {0}) E) (new : Outlet W) : Type 0 where
     pub size : Option ℕ
     pub text' : F
     pub mid : Outlet W

@@ -29,7 +29,7 @@ impl<W: Write> Outlet<W> {
         }
     }
 
-    // Writes out what is held back.
+    // Writes out what is held back. After a failure, too, nothing is held back any more.
     pub fn flush(&mut self) -> io::Result<()>
         ensures sent { OnOk result (Appends (W.contents self.old.to) (W.contents self.new.to) (take self.old.held self.old.buf)) }
         ensures empty { self.new.held ≡ 0 }
@@ -102,7 +102,11 @@ impl<W: Write> Write for Outlet<W> {
         Ok(size)
     }
 
-    fn flush(&mut self) -> io::Result<()> {
+    // Writes out what is held back. After a failure, what was not written is held back still.
+    fn flush(&mut self) -> io::Result<()>
+        ensures bytes { Keeps (known_of W.contents self.old) (known_of W.contents self.new) }
+        ensures all { OnOk result (self.new.held ≡ 0) }
+    {
         while self.held > 0 {
             if self.write_some()? == 0 {
                 return Err(ErrorKind::WriteZero.into());

@@ -1,141 +1,136 @@
 -- The phases that the lines say are the phases of the seven lists.
-use mathlib.Core.Path.{◌≡◌, refl, sym, ap, subst⁻¹, ◌∙◌}
-use mathlib.Core.Logic.{◌≢◌}
-use mathlib.Core.Bool.{true}
-use mathlib.Core.List.{List, [], ◌∷◌, ◌++◌, append_assoc, append-nil}
-use Prim.Native.Nat.{ℕ, zero, suc, ◌+◌, ◌*◌, ◌≤◌, ◌<◌}
-use native.Mathlib.Numerals.{add-one}
-use native.Mathlib.Omega.{arith}
-use borrow.Author.Tests.{eq-eqb, lt-ltb}
-use lib.ListN.{length, get_or, set, take, drop, length-set, length-drop}
-use lib.Seq.{get_or-take, get_or-drop, get_or-set_same, get_or-set_other, length-take-le}
+use Rattle.std.proofs.Common.{◌≡◌, refl, sym, ap, subst, ◌∙◌, ℕ, zero, suc, ◌+◌, ◌≤◌, ◌<◌, true, List, [], ◌∷◌, ◌++◌, length, get_or, take, append_assoc, append-nil, length-set, get_or-set_same, get_or-set_other, arith}
+use Rattle.std.specs.Prelude.{Some}
+use Rattle.std.proofs.Math.ListN.{set}
+use Rattle.std.proofs.Math.Seq.{get_or-take, length-take-le}
+use Rattle.std.proofs.lemmas.Bool.Decides.{nat_tests}
+use borrow.Author.Tests.{eq-eqb}
 use Rattle.tariff.specs.declared.Phase.{Phase}
 use Rattle.phase_lists.specs.Lists.{phase_of, first_phases, phases_of, one_length}
-use Rattle.std.specs.Prelude.{Some}
 use Rattle.phase_lines.specs.declared.Phases.{Phases}
-use Rattle.phase_lines.specs.Gathering.{none_read, stored, with_line, first_of, lists_in, with_all, AsRead}
+use Rattle.phase_lines.specs.Gathering.{none_read, stored, with_line, lists_in, with_all, AsRead}
 
--- the number at place i of the list that stands from a place on
-column : (n : List ℕ) (from k i : ℕ) → i < k → get_or (take k (drop from n)) i 0 ≡ get_or n (i + from) 0
-column n from k i room =
-    let same : from + i ≡ i + from = omega arith in
-    get_or-take k (drop from n) i 0 room ∙ get_or-drop from n i 0 ∙ rw same
+-- one number more in a list leaves those before it
+still : (n : List ℕ) (k v i : ℕ) → i < k → get_or (take (k + 1) (set n k v)) i 0 ≡ get_or (take k n) i 0
+still n k v i before =
+    get_or-take (k + 1) (set n k v) i 0 (omega arith)
+    ∙ get_or-set_other n k i v 0 (λ same. omega arith)
+    ∙ sym (get_or-take k n i 0 before)
 
-stored-length : (n : List ℕ) (k : ℕ) (p : Phase) → length (stored n k p) ≡ length n
-stored-length n k p = simp length-set
+-- and comes after them
+comes : (n : List ℕ) (k v : ℕ) → k < length n → get_or (take (k + 1) (set n k v)) k 0 ≡ v
+comes n k v room = get_or-take (k + 1) (set n k v) k 0 (omega arith) ∙ get_or-set_same n k v 0 room
 
--- numbers stored nine places apart
-spread : List ℕ → ℕ → List ℕ → List ℕ
-spread n at [] = n
-spread n at (v ∷ vs) = spread (set n at v) (at + 9) vs
+-- each list has nine places
+record Nine (s : Phases) : Type 0 where
+  pub pri : length s.pri ≡ 9
+  pub pcx : length s.pcx ≡ 9
+  pub repx : length s.repx ≡ 9
+  pub pcn : length s.pcn ≡ 9
+  pub repn : length s.repn ≡ 9
+  pub ci : length s.ci ≡ 9
+  pub pd : length s.pd ≡ 9
 
--- any other place keeps its number
-other : (vs n : List ℕ) (at i : ℕ) → ((m : ℕ) → i ≢ at + m * 9) → get_or (spread n at vs) i 0 ≡ get_or n i 0
-unfolding spread
-other [] n at i apart = refl
-other (v ∷ vs) n at i apart =
-    let here : i ≢ at = λ same. apart 0 (omega arith) in
-    other vs (set n at v) (at + 9) i (λ m same. apart (suc m) (omega arith)) ∙ get_or-set_other n at i v 0 here
+stored-nine : (s : Phases) (p : Phase) → Nine s → Nine (stored s p)
+stored-nine s p nine =
+    record {
+      pri = length-set s.pri s.taken p.pri ∙ nine.pri;
+      pcx = length-set s.pcx s.taken p.pcx ∙ nine.pcx;
+      repx = length-set s.repx s.taken p.repx ∙ nine.repx;
+      pcn = length-set s.pcn s.taken p.pcn ∙ nine.pcn;
+      repn = length-set s.repn s.taken p.repn ∙ nine.repn;
+      ci = length-set s.ci s.taken p.ci ∙ nine.ci;
+      pd = length-set s.pd s.taken p.pd ∙ nine.pd;
+    }
 
--- each is at its own place
-there : (vs n : List ℕ) (at j : ℕ) → j < length vs → at + j * 9 < length n → get_or (spread n at vs) (at + j * 9) 0 ≡ get_or vs j 0
-unfolding spread
-there [] n at j some room = elim some [ ]
-there (v ∷ vs) n at zero some room =
-    let same : at + 0 * 9 ≡ at = omega arith in
-    rw same (other vs (set n at v) (at + 9) at (λ m same. omega arith) ∙ get_or-set_same n at v 0 (omega arith))
-there (v ∷ vs) n at (suc j) some room =
-    let same : at + suc j * 9 ≡ at + 9 + j * 9 = omega arith in
-    rw same (there vs (set n at v) (at + 9) j (omega arith) (omega (arith, length-set n at v)))
-
-values : Phase → List ℕ
-values p = p.pri ∷ p.pcx ∷ p.repx ∷ p.pcn ∷ p.repn ∷ p.ci ∷ p.pd ∷ []
-
-is-spread : (n : List ℕ) (k : ℕ) (p : Phase) → stored n k p ≡ spread n k (values p)
-unfolding spread values
-is-spread n k p = rw (up 9, up 18, up 27, up 36, up 45)
-  where
-    up : (m : ℕ) → k + m + 9 ≡ k + (m + 9)
-    up m = omega arith
-
-module _ (n : List ℕ) (k : ℕ) (p : Phase) (size : length n ≡ 63) (room : k < 9) where
-  abbrev after : List ℕ
-  after = stored n k p
-
-  -- the numbers of the phases before stay in list j
-  still : (i j : ℕ) → i < k → get_or (take (suc k) (drop (j * 9) after)) i 0 ≡ get_or (take k (drop (j * 9) n)) i 0
-  still i j before =
-      column after (j * 9) (suc k) i (omega arith)
-      ∙ rw (is-spread n k p) (other (values p) n k (i + j * 9) (λ m same. omega arith))
-      ∙ sym (column n (j * 9) k i before)
-
-  kept : (i : ℕ) → i < k → phase_of (first_of after (suc k)) i ≡ phase_of (first_of n k) i
+module _ (s : Phases) (p : Phase) (nine : Nine s) (room : s.taken < 9) where
+  kept : (i : ℕ) → i < s.taken → phase_of (lists_in (stored s p)) i ≡ phase_of (lists_in s) i
   kept i before =
-      rw (still i 0 before, still i 1 before, still i 2 before, still i 3 before, still i 4 before, still i 5 before, still i 6 before)
+      let k = s.taken in
+      rw (
+        still s.pri k p.pri i before,
+        still s.pcx k p.pcx i before,
+        still s.repx k p.repx i before,
+        still s.pcn k p.pcn i before,
+        still s.repn k p.repn i before,
+        still s.ci k p.ci i before,
+        still s.pd k p.pd i before,
+      )
 
-  -- and the number of this one comes after them
-  comes : (j : ℕ) → j < 7 → get_or (take (suc k) (drop (j * 9) after)) k 0 ≡ get_or (values p) j 0
-  unfolding values
-  comes j list =
-      column after (j * 9) (suc k) k (omega arith)
-      ∙ rw (is-spread n k p) (there (values p) n k j (omega arith) (omega arith))
-
-  this : phase_of (first_of after (suc k)) k ≡ p
-  unfolding values
+  this : phase_of (lists_in (stored s p)) s.taken ≡ p
   this =
-      rw (comes 0 (omega arith), comes 1 (omega arith), comes 2 (omega arith), comes 3 (omega arith), comes 4 (omega arith), comes 5 (omega arith), comes 6 (omega arith))
+      let k = s.taken in
+      rw (
+        comes s.pri k p.pri (omega (arith, nine.pri)),
+        comes s.pcx k p.pcx (omega (arith, nine.pcx)),
+        comes s.repx k p.repx (omega (arith, nine.repx)),
+        comes s.pcn k p.pcn (omega (arith, nine.pcn)),
+        comes s.repn k p.repn (omega (arith, nine.repn)),
+        comes s.ci k p.ci (omega (arith, nine.ci)),
+        comes s.pd k p.pd (omega (arith, nine.pd)),
+      )
 
-  before-this : (i : ℕ) → i ≤ k → first_phases (first_of after (suc k)) i ≡ first_phases (first_of n k) i
+  before-this : (i : ℕ) → i ≤ s.taken → first_phases (lists_in (stored s p)) i ≡ first_phases (lists_in s) i
   unfolding first_phases
   before-this zero few = refl
   before-this (suc i) few = rw (before-this i (omega arith), kept i (omega arith))
 
-  one_more_lem : phases_of (first_of after (suc k)) ≡ phases_of (first_of n k) ++ (p ∷ [])
+  one_more_lem : phases_of (lists_in (stored s p)) ≡ phases_of (lists_in s) ++ (p ∷ [])
   unfolding first_phases
   one_more_lem =
-      let held : length (take (suc k) after) ≡ suc k = length-take-le (suc k) after (omega (arith, stored-length n k p, size)) in
-      let had : length (take k n) ≡ k = length-take-le k n (omega (arith, size)) in
+      let k = s.taken in
+      let n = set s.pri k p.pri in
+      let held : length (take (k + 1) n) ≡ suc k = length-take-le (k + 1) n (omega (arith, length-set s.pri k p.pri, nine.pri)) ∙ omega arith in
+      let had : length (take k s.pri) ≡ k = length-take-le k s.pri (omega (arith, nine.pri)) in
       rw (held, had, before-this k (omega arith), this)
 
--- with one more where there is room
-next : Phases → Phase → Phases
-next s p = record { taken = s.taken + 1; bad = s.bad; lists = stored s.lists s.taken p }
+  taken_in : with_line s (Some p) ≡ stored s p
+  unfolding with_line
+  taken_in = grind (arith, nat_tests)
 
-taken_in : (s : Phases) (p : Phase) → s.taken < 9 → with_line s (Some p) ≡ next s p
-unfolding with_line next
-taken_in s p few = rw (lt-ltb s.taken 9 few)
-
-with_all_lem : (ps : List Phase) (s : Phases) → length s.lists ≡ 63 → s.taken + length ps ≤ 9
+with_all_lem : (ps : List Phase) (s : Phases) → Nine s → s.taken + length ps ≤ 9
     → phases_of (lists_in (with_all s ps)) ≡ phases_of (lists_in s) ++ ps
-unfolding with_all next
-with_all_lem [] s size room = sym (append-nil (phases_of (lists_in s)))
-with_all_lem (p ∷ ps) s size room =
+unfolding with_all
+with_all_lem [] s nine room = sym (append-nil (phases_of (lists_in s)))
+with_all_lem (p ∷ ps) s nine room =
     let few : s.taken < 9 = omega arith in
-    let more = one_more_lem s.lists s.taken p size few in
-    ap (λ (t : Phases). phases_of (lists_in (with_all t ps))) (taken_in s p few)
-    ∙ with_all_lem ps (next s p) (stored-length s.lists s.taken p ∙ size) (omega arith)
-    ∙ rw (add-one s.taken, more, append_assoc)
+    let more = one_more_lem s p nine few in
+    ap (λ (t : Phases). phases_of (lists_in (with_all t ps))) (taken_in s p nine few)
+    ∙ with_all_lem ps (stored s p) (stored-nine s p nine) (omega arith)
+    ∙ rw (more, append_assoc)
 
--- the seven lists have one length, since none reaches into the next
-abbrev Fits : Phases → Type 0
-Fits s = (length s.lists ≡ 63) × (s.taken ≤ 9)
+-- nine at most are taken
+record Fits (s : Phases) : Type 0 where
+  pub nine : Nine s
+  pub few : s.taken ≤ 9
 
-all_fit : (ps : List Phase) (s : Phases) → length s.lists ≡ 63 → s.taken + length ps ≤ 9 → Fits (with_all s ps)
-unfolding with_all next
-all_fit [] s size room = (size, omega arith)
-all_fit (p ∷ ps) s size room =
-    subst⁻¹ (λ (t : Phases). Fits (with_all t ps)) (taken_in s p (omega arith))
-    (all_fit ps (next s p) (stored-length s.lists s.taken p ∙ size) (omega arith))
+all_fit : (ps : List Phase) (s : Phases) → Nine s → s.taken + length ps ≤ 9 → Fits (with_all s ps)
+unfolding with_all
+all_fit [] s nine room = record { nine = nine; few = omega arith }
+all_fit (p ∷ ps) s nine room =
+    subst (λ (t : Phases). Fits (with_all t ps)) (sym (taken_in s p nine (omega arith)))
+    (all_fit ps (stored s p) (stored-nine s p nine) (omega arith))
 
 as_long : (s : Phases) → Fits s → one_length (lists_in s) ≡ true
 as_long s fits =
-    let k = s.taken in
-    let first : length (take k s.lists) ≡ k = length-take-le k s.lists (omega (arith, fits)) in
-    rw (first, cut 9 (omega arith), cut 18 (omega arith), cut 27 (omega arith), cut 36 (omega arith), cut 45 (omega arith), cut 54 (omega arith), eq-eqb k k refl)
+    rw (
+      cut s.pri fits.nine.pri,
+      cut s.pcx fits.nine.pcx,
+      cut s.repx fits.nine.repx,
+      cut s.pcn fits.nine.pcn,
+      cut s.repn fits.nine.repn,
+      cut s.ci fits.nine.ci,
+      cut s.pd fits.nine.pd,
+      eq-eqb s.taken s.taken refl,
+    )
   where
-    cut : (from : ℕ) → from ≤ 54 → length (take s.taken (drop from s.lists)) ≡ s.taken
-    cut from low = length-take-le s.taken (drop from s.lists) (omega (arith, length-drop from s.lists, fits))
+    cut : (n : List ℕ) → length n ≡ 9 → length (take s.taken n) ≡ s.taken
+    cut n nine = length-take-le s.taken n (omega (arith, nine, fits.few))
+
+none-nine : Nine none_read
+none-nine = record { pri = refl; pcx = refl; repx = refl; pcn = refl; repn = refl; ci = refl; pd = refl }
 
 pub as_read : AsRead
 unfolding with_all first_phases
-as_read ps room = (as_long (with_all none_read ps) (all_fit ps none_read refl (omega arith)), with_all_lem ps none_read refl (omega arith))
+as_read ps room =
+    (as_long (with_all none_read ps) (all_fit ps none_read none-nine (omega arith)), with_all_lem ps none_read none-nine (omega arith))

@@ -1,7 +1,7 @@
 // The phase lines that a descriptor of a script has got so far, and the descriptor with them on a line.
 #![tactic(auto)]
 
-ghost use Rattle.std.specs.Prelude.{◌≡◌, take, drop};
+ghost use Rattle.std.specs.Prelude.{◌≡◌, take};
 ghost use Rattle.grammar.specs.Meaning.{descriptor};
 ghost use Rattle.line.specs.Lines.{meant_by};
 ghost use Rattle.phase_lists.specs.Lists.{lists_in};
@@ -11,19 +11,25 @@ use descriptor::{BurstPart, Descriptor, TariffPart};
 use phase_lists::PhaseLists;
 use tariff::Phase;
 
-// How many were read, whether one was bad, and the seven lists of nine: list i stands from place 9 i on.
-#[derive(Clone, Copy)]
+// How many phases were read, at most nine, whether a line was bad, and the numbers of the phases, by name.
+// Stays: fixed memory, and a line takes a list for each name; a phase line that is bad leaves those before it.
+#[derive(Clone, Copy, PartialEq, Eq, Debug)]
 pub struct Phases {
     pub taken: usize,
     pub bad: bool,
-    pub lists: [u32; 63],
+    pub pri: [u32; 9],
+    pub pcx: [u32; 9],
+    pub repx: [u32; 9],
+    pub pcn: [u32; 9],
+    pub repn: [u32; 9],
+    pub ci: [u32; 9],
+    pub pd: [u32; 9],
 }
 
-// The first k numbers of the list that stands from a place on.
-fn part(lists: &[u32], from: usize, k: usize) -> &[u32]
-    ensures { result.now ≡ take k (drop from lists.now) }
+// The first k numbers of a list.
+fn first(list: &[u32], k: usize) -> &[u32]
+    ensures { result.now ≡ take k list.now }
 {
-    let list = lists.get(from..).unwrap_or(&[]);
     &list[..k.min(list.len())]
 }
 
@@ -35,7 +41,13 @@ impl Phases {
         Phases {
             taken: 0,
             bad: false,
-            lists: [0; 63],
+            pri: [0; 9],
+            pcx: [0; 9],
+            repx: [0; 9],
+            pcn: [0; 9],
+            repn: [0; 9],
+            ci: [0; 9],
+            pd: [0; 9],
         }
     }
 
@@ -45,13 +57,13 @@ impl Phases {
     {
         let at = self.taken;
         if at < 9 {
-            self.lists[at] = p.pri;
-            self.lists[at + 9] = p.pcx;
-            self.lists[at + 18] = p.repx;
-            self.lists[at + 27] = p.pcn;
-            self.lists[at + 36] = p.repn;
-            self.lists[at + 45] = p.ci;
-            self.lists[at + 54] = p.pd;
+            self.pri[at] = p.pri;
+            self.pcx[at] = p.pcx;
+            self.repx[at] = p.repx;
+            self.pcn[at] = p.pcn;
+            self.repn[at] = p.repn;
+            self.ci[at] = p.ci;
+            self.pd[at] = p.pd;
             self.taken = at + 1;
         }
         self
@@ -72,16 +84,15 @@ impl Phases {
     fn lists(&self) -> PhaseLists<'_>
         ensures { lists_in result ≡ read_lists self.now }
     {
-        let lists = &self.lists;
         let k = self.taken;
         PhaseLists {
-            pri: part(lists, 0, k),
-            pcx: part(lists, 9, k),
-            repx: part(lists, 18, k),
-            pcn: part(lists, 27, k),
-            repn: part(lists, 36, k),
-            ci: part(lists, 45, k),
-            pd: part(lists, 54, k),
+            pri: first(&self.pri, k),
+            pcx: first(&self.pcx, k),
+            repx: first(&self.repx, k),
+            pcn: first(&self.pcn, k),
+            repn: first(&self.repn, k),
+            ci: first(&self.ci, k),
+            pd: first(&self.pd, k),
         }
     }
 

@@ -8,7 +8,8 @@ ghost use Rattle.phase_lists.specs.Tables.{no_table, phase_count, table_of};
 use rules::Carry;
 use tariff::Phase;
 
-// The seven phase lists of a descriptor. They are no list of phases, since their lengths may differ, which is refusal 5.
+// The seven phase lists of a descriptor.
+// Stays: seven lists and no slice of phases, since their lengths may differ, which is refusal 5.
 #[derive(Clone, Copy)]
 pub struct PhaseLists<'a> {
     pub pri: &'a [u32],

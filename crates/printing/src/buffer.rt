@@ -9,6 +9,7 @@ use itoa::Buffer;
 const LONGEST: usize = 69;
 
 // Whether the longest text has room from `at` on.
+// Stays: each caller tests and puts. `bool::then` was tried, and says nothing of a buffer that its closure leaves as it is.
 pub(crate) fn has_room(buf: &[u8], at: usize) -> bool
     ensures { result ≡ nat_le (at + longest) (length buf.now) }
 {

@@ -1,5 +1,4 @@
 -- Proofs by cases: of a choice, of an order, of an entry.
-use mathlib.Core.Path.{◌≡◌, refl}
 use mathlib.Core.Bool.{Bool, true, false, cond}
 use Prim.Native.Nat.{ℕ, ◌≤◌, ◌<◌}
 use native.Mathlib.Decide.{dec_le}
@@ -20,11 +19,3 @@ by_order {P} m n f h = go (dec_le m n)
 pub bit_le : (e : Entry) → bit_of e ≤ 1
 bit_le X = omega arith
 bit_le N = omega arith
-
-pub bit-x : (e : Entry) → bit_of e ≡ 1 → e ≡ X
-bit-x X h = refl
-bit-x N h = absurd (omega arith)
-
-pub bit-n : (e : Entry) → (bit_of e ≡ 1 → ⊥) → e ≡ N
-bit-n X h = absurd (h refl)
-bit-n N h = refl

@@ -1,7 +1,7 @@
 -- The pulses of a phase's first k intervals, from its X's.
 use mathlib.Core.Path.{◌≡◌, refl, ap, ◌∙◌}
-use Prim.Native.Nat.{ℕ, zero, suc, ◌+◌, ◌-◌, ◌*◌, ◌/◌, ◌%◌, ◌^◌, ◌≤◌, ◌<◌}
-use native.Mathlib.Nat.{zero-mul, suc-mul, add-mul, mul-le-mul_left, zero-div, zero-mod, mod-lt, div-add-mod', div-eq_of_lt-le}
+use Prim.Native.Nat.{ℕ, zero, suc, ◌+◌, ◌-◌, ◌*◌, ◌/◌, ◌%◌, ◌≤◌, ◌<◌}
+use native.Mathlib.Nat.{zero-mul, suc-mul, zero-div, zero-mod, mod-lt, div-add-mod', div-eq_of_lt-le}
 use native.Mathlib.Omega.{arith}
 use lib.ListN.{take}
 use lib.Seq.{take_all}
@@ -38,18 +38,6 @@ one_more_lem pcx pcn xs k X h =
 one_more_lem pcx pcn xs k N h =
     let rest : suc k - (xs + 0) ≡ suc (k - xs) = omega arith in
     rw rest (omega (arith, suc-mul (k - xs) pcn))
-
--- the pulses of k intervals fit 64 bits, where k and the counts are of 32 bits
-pub pulses_fit : (pcx pcn xs k : ℕ) → xs ≤ k → k < 2 ^ 32 → pcx < 2 ^ 32 → pcn < 2 ^ 32 → xs * pcx + (k - xs) * pcn < 2 ^ 64
-pulses_fit pcx pcn xs k h l p q =
-    let top = 2 ^ 32 - 1 in
-    let whole : xs + (k - xs) ≡ k = omega arith in
-    omega (
-      arith,
-      mul-le-mul_left {m = pcx} {n = top} xs (omega arith),
-      mul-le-mul_left {m = pcn} {n = top} (k - xs) (omega arith),
-      rw whole at (add-mul xs (k - xs) top),
-    )
 
 module _ (repx repn : ℕ) where
   -- the X's of the first k intervals

@@ -5,7 +5,7 @@ use Prim.Native.Nat.{ℕ, zero, suc, ◌+◌, ◌-◌, ◌*◌, ◌/◌, ◌%◌
 use native.Mathlib.Nat.{zero-div, zero-mod, div-div-eq-div-mul, pow-suc, mul_comm, div-one, mod-one, one-mul, mod-eq_of_lt, lt_of_lt_of_le}
 use native.Mathlib.Numerals.{add-one}
 use native.Mathlib.Omega.{arith}
-use lib.Pow.{mod-pow-add, pow_pos, pow_mono, pow-lt}
+use lib.Pow.{mod-pow-add, pow_mono, pow-lt}
 use lib.Count.{ones, ones_step}
 use lib.Bits.{bit_and, and_mask}
 use lib.ListN.{length, get_or, take, drop}
@@ -117,9 +117,6 @@ ten-words x n e =
 
 mask : (k : ℕ) → k < 64 → 1 * 2 ^ k % 2 ^ 64 ≡ 2 ^ k
 mask k h = rw one-mul (mod-eq_of_lt (pow-lt h))
-
-pub mask-pos : (k : ℕ) → k < 64 → 0 < 1 * 2 ^ k % 2 ^ 64
-mask-pos k h = rw (mask k h) (pow_pos k)
 
 -- a mask of k ones keeps the k low bits
 pub and_low : (w k : ℕ) → k < 64 → bit_and w (1 * 2 ^ k % 2 ^ 64 - 1) ≡ w % 2 ^ k

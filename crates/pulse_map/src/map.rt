@@ -22,10 +22,17 @@ impl Map {
         ensures { MatchOption result (no_map repx repn 0 ≡ true) (λ m. (no_map repx repn 0 ≡ false) × (m.xs ≡ repx) × (m.ns ≡ repn)) }
     {
         let (xs, ns) = (u64::from(repx), u64::from(repn));
-        if xs + ns < 1 || xs + ns > 100 {
-            return None;
+        match xs + ns {
+            1..=100 => Some(Map { xs, ns }),
+            _ => None,
         }
-        Some(Map { xs, ns })
+    }
+
+    // The number of its elements.
+    pub(crate) fn len(self) -> u64
+        ensures { result ≡ self.xs + self.ns }
+    {
+        self.xs + self.ns
     }
 }
 
@@ -36,7 +43,7 @@ pub fn element_at(repx: u32, repn: u32, i: u32) -> Option<Element>
 {
     let map = Map::of(repx, repn)?;
     let i = u64::from(i);
-    if i >= map.xs + map.ns {
+    if i >= map.len() {
         None
     } else if map.bit(i) == 1 {
         Some(Element::X)
@@ -52,7 +59,7 @@ pub fn xs_in_prefix(repx: u32, repn: u32, k: u32) -> Option<u64>
 {
     let map = Map::of(repx, repn)?;
     let k = u64::from(k);
-    if k > map.xs + map.ns {
+    if k > map.len() {
         None
     } else {
         Some(map.xs_before(k))

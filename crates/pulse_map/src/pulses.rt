@@ -12,7 +12,7 @@ impl Map {
         ensures xs { result ≡ pulses_in 1 self.xs 0 self.ns k }
         ensures bound { result ≤ k }
     {
-        let length = self.xs + self.ns;
+        let length = self.len();
         k / length * self.xs + self.xs_before(k % length)
     }
 }

@@ -7,6 +7,7 @@ ghost use Rattle.pulse_map.specs.Words.{hundred_word, ten_word, words_of};
 use super::map::Map;
 
 // Row r, the map of r X's and 100 - r N's, in two words: element i in bit i mod 64 of word i div 64, 1 for X.
+// Stays: the paper names 202 words of 64 bits.
 const HUNDREDS: [u64; 202] = [
     0x0,
     0x0,
@@ -213,6 +214,7 @@ const HUNDREDS: [u64; 202] = [
 ];
 
 // Row r, the map of r X's and 10 - r N's, in one word.
+// Stays: the paper names eleven words of 16 bits.
 const TENS: [u16; 11] = [0, 1, 33, 73, 85, 341, 219, 731, 495, 511, 1023];
 
 // Word h of row r of the maps of a hundred elements.
@@ -233,6 +235,7 @@ fn ten_word(r: usize) -> u16
 }
 
 // The number of ones in the k low bits of a word.
+// Stays: the paper names count_ones of masked row words.
 #[tactic(auto, using(crate::proofs::Words::and_low, crate::proofs::Words::above))]
 fn low_ones(word: u64, k: u64) -> u64
     ensures { result ≡ ones (word % 2 ^ k) }
@@ -250,7 +253,7 @@ impl Map {
         ensures { IfSome result (λ words. words ≡ words_of (map_of self.xs self.ns)) }
     {
         let row = self.xs as usize;
-        match self.xs + self.ns {
+        match self.len() {
             100 => Some([hundred_word(row, 0), hundred_word(row, 1)]),
             10 => Some([ten_word(row).into(), 0]),
             _ => None,

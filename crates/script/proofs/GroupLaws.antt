@@ -4,7 +4,7 @@ use Rattle.std.specs.Prelude.{Some, None}
 use Rattle.std.proofs.Math.ListN.{set, length-append}
 use Rattle.std.proofs.Math.Seq.{set_at}
 use Rattle.script.specs.Readers.{Parsed, Reader, after, ◌>>=◌, give, number, no_word}
-use Rattle.script.specs.Cards.{numbers, places_of, grouped}
+use Rattle.script.specs.Cards.{numbers, places_of}
 use Rattle.script.specs.declared.Places.{Places}
 
 -- the group of P, of the value v, and of the places ps and then ns
@@ -55,10 +55,6 @@ pub record Begun (v : ℕ) (list : List ℕ) (count : ℕ) (ws : List (List ℕ)
   pub stored : places_of places ≡ record { count = count; list = list }
   pub left : onward (64 - count) places v ws ≡ p
 
--- P is read first
-pub no_place : {v : ℕ} (ws : List (List ℕ)) {vs : List (List ℕ)} → Some (v, vs) ≡ number ws → Begun v (replicate 64 0) 0 vs (grouped ws)
-no_place ws h = record { places = []; stored = refl; left = ap (λ (r : Parsed ℕ). after r (onward 64 [])) h }
-
 module _ {list : List ℕ} {v count : ℕ} {ws : List (List ℕ)} {p : Parsed (ℕ × Places)} (b : Begun v list count ws p) where
   more-left : count < 64 → no_word ws ≡ false → after (number ws) (λ n. onward (64 - (count + 1)) (b.places ++ (n ∷ [])) v) ≡ p
   more-left room more =
@@ -77,10 +73,6 @@ module _ {list : List ℕ} {v count : ℕ} {ws : List (List ℕ)} {p : Parsed (�
         stored = rw (← long, ← same) (store-next ps n (omega arith));
         left = rw (← h) at (more-left room more);
       }
-
-  -- a word that is no number
-  pub no_more : count < 64 → no_word ws ≡ false → None ≡ number ws → None ≡ p
-  no_more room more h = rw (← h) at (more-left room more)
 
   -- no word is left
   pub last-place : no_word ws ≡ true → Some ((v, record { count = count; list = list }), ws) ≡ p

@@ -122,7 +122,8 @@ card-bad = refl
 
 -- lines of a group: some places, none, and one that is named twice
 pub card-group :
-    map card_of ("group 250 3 1 64" ∷ "group 250" ∷ " group 0  7 7 " ∷ []) ≡ Some (Group 250) ∷ Some (Group 250) ∷ Some (Group 0) ∷ []
+    map card_of ("group 250 3 1 64" ∷ "group 250" ∷ " group 0  7 7 " ∷ [])
+    ≡ Some (Group 250) ∷ Some (Group 250) ∷ Some (Group 0) ∷ []
 unfolding words_of
 card-group = refl
 

@@ -15,6 +15,7 @@ fn next_places(line: &[u8]) -> Option<((u32, Places), &[u8])>
     let (interval, mut rest) = next_number(line)?;
     let mut list = [0; 64];
     let mut count = 0;
+    // Stays: the list's room or the line's end stops it; a `for` over the list needs a count and a break, and is no plainer.
     while count < 64 && !ended(rest) {
         let (place, past) = next_number(rest)?;
         list[count] = place;

@@ -1,6 +1,8 @@
 // The languages of the programs `meter` and `card`: what each line of their input asks.
 #![tactic(auto)]
 
+ghost use Rattle.std.specs.Prelude.{◌≡◌, take};
+
 use descriptor::{BurstPart, Hook, TariffPart};
 
 mod card_lines;
@@ -38,11 +40,20 @@ pub enum Command {
 }
 
 // The places of a group: the first `count` of the list, whose others are 0.
-// Stays: fixed memory; a `Vec` could fail for want of memory, which `read_places` cannot.
+// Stays: fixed memory. A `Vec` could fail, which `read_places` cannot, and a ghost field would ask a proof of each value.
 #[derive(Clone, Copy, PartialEq, Eq, Debug)]
 pub struct Places {
     pub count: usize,
     pub list: [u32; 64],
+}
+
+impl Places {
+    // The places themselves.
+    pub fn as_slice(&self) -> &[u32]
+        ensures { result.now ≡ take self.now.count self.now.list }
+    {
+        &self.list[..self.count.min(self.list.len())]
+    }
 }
 
 // How a descriptor is given to a line: to be taken, to be asked only, or to be committed with the ticket of an ask.

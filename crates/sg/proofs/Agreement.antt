@@ -1,11 +1,11 @@
 -- The reader answers what a text asks for: its refusal, or its parts, with the first nine values of each phase list.
 use Rattle.std.specs.Prelude.{Result, Ok, Err}
-use Prim.Native.Nat.{ℕ, ◌*◌, ◌<◌, min}
+use Prim.Native.Nat.{ℕ, ◌<◌, min}
 use native.Mathlib.Omega.{arith}
 use mathlib.Core.Bool.{Bool, true, false, cond, ◌||◌}
 use mathlib.Core.List.{List, [], ◌∷◌}
 use mathlib.Core.Path.{◌≡◌, refl, ap, ◌∙◌}
-use lib.ListN.{length, get_or, take, drop}
+use lib.ListN.{length, take}
 use Rattle.phase_lists.specs.Lists.{first_places}
 use Rattle.descriptor.specs.declared.Refusal.TheVariants.{Grammar, Content}
 use Rattle.descriptor.specs.declared.Refusal.{Refusal}
@@ -14,7 +14,7 @@ use Rattle.grammar.specs.Reader.{Found, found, missing, text_of}
 use Rattle.grammar.specs.Meaning.{Given, has, values_of, any_faulty, is_incomplete, is_senseless, first_or, tariff_by, burst_by, lists_by}
 use Rattle.grammar.specs.Meaning.{Reading as Meant, unreadable, senseless, descriptor, meaning_of, reading_in, reading_of}
 use Rattle.grammar.proofs.Readings.{found-says}
-use Rattle.notes.specs.Noting.{has_in}
+use Rattle.notes.specs.Noting.{has_in, values_at}
 use Rattle.notes.specs.declared.Notes.{Notes}
 use Rattle.sg.specs.Readings.{text_notes, read_in, read_of}
 use Rattle.outcomes.specs.Outcomes.{kept_of, lists_in, outcome_of}
@@ -34,30 +34,30 @@ first-kept d [] = refl
 first-kept d (v ∷ l) = refl
 
 module _ (gs : Row Given) (n : Notes) (h : Tells gs n) (sound : any_faulty gs ≡ false) where
-  there : (s : ℕ) → s < 17 → has_in n.counts s ≡ has gs s
+  there : (s : ℕ) → s < 17 → has_in n.values s ≡ has gs s
   there s low = h.told-has sound s low
 
-  kept : (s : ℕ) → s < 17 → kept_of n.counts n.values s ≡ take 9 (values_of gs s)
+  kept : (s : ℕ) → s < 17 → kept_of n.values s ≡ take 9 (values_of gs s)
   kept s low =
-      let k = h.told-values sound s low in
-      let e : min (get_or n.counts s 0) 9 ≡ min (length (values_of gs s)) 9 = let c = k.count-is in omega arith in
-      ap (λ (i : ℕ). take i (drop (s * 9) n.values)) e ∙ k.slice_is
+      let k = (h.told-values sound s low).keeps in
+      let e : min (values_at n.values s).count 9 ≡ min (length (values_of gs s)) 9 = let c = k.count-is in omega arith in
+      ap (λ (i : ℕ). take i (values_at n.values s).items) e ∙ k.slice_is
 
-  first-told : (d s : ℕ) → s < 17 → first_or d (kept_of n.counts n.values s) ≡ first_or d (values_of gs s)
+  first-told : (d s : ℕ) → s < 17 → first_or d (kept_of n.values s) ≡ first_or d (values_of gs s)
   first-told d s low = ap (first_or d) (kept s low) ∙ first-kept d (values_of gs s)
 
-  incomplete_told : is_incomplete (has_in n.counts) ≡ is_incomplete (has gs)
+  incomplete_told : is_incomplete (has_in n.values) ≡ is_incomplete (has gs)
   incomplete_told =
       rw (there 0 (omega arith), there 2 (omega arith), there 8 (omega arith), there 10 (omega arith), there 11 (omega arith), there 12 (omega arith), there 13 (omega arith), there 14 (omega arith), there 15 (omega arith), there 16 (omega arith))
 
-  tariff-told : tariff_by (has_in n.counts) (kept_of n.counts n.values) ≡ tariff_by (has gs) (values_of gs)
+  tariff-told : tariff_by (has_in n.values) (kept_of n.values) ≡ tariff_by (has gs) (values_of gs)
   tariff-told =
       rw (there 0 (omega arith), there 1 (omega arith), there 8 (omega arith), there 9 (omega arith), first-told 0 2 (omega arith), first-told 0 3 (omega arith))
 
-  burst-told : burst_by (has_in n.counts) (kept_of n.counts n.values) ≡ burst_by (has gs) (values_of gs)
+  burst-told : burst_by (has_in n.values) (kept_of n.values) ≡ burst_by (has gs) (values_of gs)
   burst-told = rw (there 4 (omega arith), there 5 (omega arith), first-told 1 6 (omega arith), first-told 1 7 (omega arith))
 
-  lists_told : lists_by (kept_of n.counts n.values) ≡ first_places (lists_by (values_of gs)) 9
+  lists_told : lists_by (kept_of n.values) ≡ first_places (lists_by (values_of gs)) 9
   lists_told =
       rw (kept 10 (omega arith), kept 11 (omega arith), kept 12 (omega arith), kept 13 (omega arith), kept 14 (omega arith), kept 15 (omega arith), kept 16 (omega arith))
 
@@ -72,9 +72,8 @@ agrees-told gs n h = rw h.told-bad (faulty (any_faulty gs) refl)
     answer : Result Reading Refusal
     answer =
         Ok (record {
-          tariff = tariff_by (has_in n.counts) (kept_of n.counts n.values);
-          burst = burst_by (has_in n.counts) (kept_of n.counts n.values);
-          counts = n.counts;
+          tariff = tariff_by (has_in n.values) (kept_of n.values);
+          burst = burst_by (has_in n.values) (kept_of n.values);
           values = n.values;
         })
 
@@ -83,7 +82,7 @@ agrees-told gs n h = rw h.told-bad (faulty (any_faulty gs) refl)
     complete e false = (tariff-told gs n h e, burst-told gs n h e, lists_told gs n h e)
 
     faulty : (w : Bool) → any_faulty gs ≡ w
-        → Agrees (cond (w || is_incomplete (has gs)) senseless meant) (cond (w || is_incomplete (has_in n.counts)) (Err Content) answer)
+        → Agrees (cond (w || is_incomplete (has gs)) senseless meant) (cond (w || is_incomplete (has_in n.values)) (Err Content) answer)
     faulty true e = refl
     faulty false e = rw (incomplete_told gs n h e) (complete e (is_incomplete (has gs)))
 

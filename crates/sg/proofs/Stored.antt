@@ -1,16 +1,17 @@
 -- The values that are stored: each slot holds the first nine of those that were noted for it.
-use Prim.Native.Nat.{ℕ, suc, ◌+◌, ◌-◌, ◌*◌, ◌≤◌, ◌<◌, min}
+use Prim.Native.Nat.{ℕ, suc, ◌+◌, ◌≤◌, ◌<◌, min}
 use native.Mathlib.Omega.{arith}
 use mathlib.Core.Bool.{Bool, true, false, cond, ◌||◌, true≢false as no, or-false, or_assoc}
 use mathlib.Core.List.{List, [], ◌∷◌, ◌++◌, append-nil, append_assoc}
 use mathlib.Core.Path.{◌≡◌, refl, sym, ap, subst, ◌∙◌}
 use borrow.Author.Tests.{lt-ltb, ltb-true, ltb-false}
 use lib.Dec.{ltb}
-use lib.ListN.{length, get_or, set, take, drop, length-set, length-append, length-drop}
-use lib.Seq.{get_or-set_same, get_or-set_other, take_all, take-append-le, take-suc-set, take-set-le, drop-set-lt, drop-set-add}
+use lib.ListN.{length, set, take, length-set, length-append}
+use lib.Seq.{get_or-set_same, get_or-set_other, take_all, take-append-le, take-suc-set}
 use Rattle.grammar.specs.Grammar.{Row, none, ◌▹◌}
 use Rattle.grammar.specs.Meaning.{listed, any_too_large, values_by}
-use Rattle.notes.specs.Noting.{count_in, has_in, stored_of, value_of, marked_of, item_slot, signal_slot}
+use Rattle.notes.specs.Noting.{no_values, pushed, values_at, has_in, stored_of, value_of, marked_of, item_slot, signal_slot}
+use Rattle.notes.specs.declared.values.Values.{Values}
 use Rattle.notes.specs.declared.Notes.{Notes}
 use Rattle.scanner.specs.Codes.{number_of, code_of}
 use Rattle.sg.specs.Readings.{numbers_notes}
@@ -34,58 +35,42 @@ pub numbers-noted : (n : Notes) (ds : Row (List ℕ)) → numbers_notes n ds ≡
 numbers-noted n none = refl
 numbers-noted n (ds ▹ d) = rw (numbers-noted n ds)
 
--- one value more, where there is room
-abbrev put_of : Notes → ℕ → Notes
-put_of n v =
-    record {
-      bad = n.bad;
-      signal = n.signal;
-      slot = n.slot;
-      counts = set n.counts n.slot (get_or n.counts n.slot 0 + 1);
-      values = set n.values (n.slot * 9 + get_or n.counts n.slot 0) v;
-    }
-
 -- m is n with values of its slot noted, of which w says whether one was wrong
 pub record Noted (n m : Notes) (w : Bool) : Type 0 where
   pub bad-is : m.bad ≡ n.bad || w
   pub signal-is : m.signal ≡ n.signal
   pub slot_is : m.slot ≡ n.slot
-  pub size : length m.counts ≡ 18
-  pub here : w ≡ false → has_in m.counts n.slot ≡ true
-  pub others : (s : ℕ) → (s ≡ n.slot → ⊥) → count_in m.counts s ≡ count_in n.counts s
+  pub size : length m.values ≡ 18
+  pub here : w ≡ false → has_in m.values n.slot ≡ true
+  pub others : (s : ℕ) → (s ≡ n.slot → ⊥) → has_in m.values s ≡ has_in n.values s
 
-module _ (n : Notes) (v : ℕ) (sized : length n.counts ≡ 18) (low : n.slot < 18) where
-  put_noted : Noted n (put_of n v) false
-  put_noted =
+-- other values at the slot
+abbrev put_of : Notes → Values → Notes
+put_of n x = record { bad = n.bad; signal = n.signal; slot = n.slot; values = set n.values n.slot x }
+
+pushed-some : (vs : Values) (v : ℕ) → 0 < (pushed vs v).count
+pushed-some vs v = at (ltb vs.count 9) refl
+  where
+    at : (t : Bool) → ltb vs.count 9 ≡ t → 0 < (cond t (record { count = vs.count + 1; items = set vs.items vs.count v }) vs).count
+    at true e = omega arith
+    at false e = let h = ltb-false vs.count 9 e in omega arith
+
+module _ (n : Notes) (v : ℕ) (sized : length n.values ≡ 18) (low : n.slot < 18) where
+  put_noted : (x : Values) → 0 < x.count → Noted n (put_of n x) false
+  unfolding has_in
+  put_noted x some =
       record {
         bad-is = sym (or-false n.bad);
         signal-is = refl;
         slot_is = refl;
-        size = length-set n.counts n.slot (get_or n.counts n.slot 0 + 1) ∙ sized;
-        here = λ e.
-            rw (lt-ltb n.slot 18 low, get_or-set_same n.counts n.slot (get_or n.counts n.slot 0 + 1) 0 (omega arith))
-            (lt-ltb 0 (get_or n.counts n.slot 0 + 1) (omega arith));
-        others = λ s ne.
-            rw (get_or-set_other n.counts n.slot s (get_or n.counts n.slot 0 + 1) 0 (λ q. ne q));
-      }
-
-  full-noted : 9 ≤ get_or n.counts n.slot 0 → Noted n n false
-  full-noted full =
-      record {
-        bad-is = sym (or-false n.bad);
-        signal-is = refl;
-        slot_is = refl;
-        size = sized;
-        here = λ e. rw (lt-ltb n.slot 18 low) (lt-ltb 0 (get_or n.counts n.slot 0) (omega arith));
-        others = λ s ne. refl;
+        size = length-set n.values n.slot x ∙ sized;
+        here = λ e. rw (lt-ltb n.slot 18 low, get_or-set_same n.values n.slot x no_values (omega arith)) (lt-ltb 0 x.count some);
+        others = λ s ne. rw (get_or-set_other n.values n.slot s x no_values (λ q. ne q));
       }
 
   stored-noted : Noted n (stored_of n v) false
-  stored-noted = rw (lt-ltb n.slot 18 low) (at (ltb (get_or n.counts n.slot 0) 9) refl)
-    where
-      at : (t : Bool) → ltb (get_or n.counts n.slot 0) 9 ≡ t → Noted n (cond t (put_of n v) n) false
-      at true e = put_noted
-      at false e = full-noted (ltb-false (get_or n.counts n.slot 0) 9 e)
+  stored-noted =
+      rw (lt-ltb n.slot 18 low) (put_noted (pushed (values_at n.values n.slot) v) (pushed-some (values_at n.values n.slot) v))
 
   wrong-noted : Noted n (marked_of n true) true
   wrong-noted =
@@ -121,7 +106,7 @@ noted_more {n} {m} {k} {w} {u} a b =
       others = λ s ne. b.others s (λ q. ne (q ∙ a.slot_is)) ∙ a.others s ne;
     }
 
-pub values-noted : (n : Notes) (vs : Row ℕ) (v : ℕ) → length n.counts ≡ 18 → n.slot < 18
+pub values-noted : (n : Notes) (vs : Row ℕ) (v : ℕ) → length n.values ≡ 18 → n.slot < 18
     → Noted n (value_of (values_notes n vs) v) (any_too_large (vs ▹ v))
 values-noted n none v sized low = value-noted n v sized low
 values-noted n (vs ▹ u) v sized low =
@@ -136,113 +121,90 @@ or_left false b e = refl
 
 -- THE VALUES: each slot holds the first nine values of its name
 
+-- the first nine of l are kept
+pub record Keeps (vs : Values) (l : List ℕ) : Type 0 where
+  pub room : length vs.items ≡ 9
+  pub count-is : vs.count ≡ min (length l) 9
+  pub slice_is : take (min (length l) 9) vs.items ≡ take 9 l
+
+pushed-keeps : (vs : Values) (l : List ℕ) (v : ℕ) → Keeps vs l → Keeps (pushed vs v) (l ++ (v ∷ []))
+pushed-keeps vs l v h = at (ltb vs.count 9) refl
+  where
+    at : (t : Bool) → ltb vs.count 9 ≡ t → Keeps (cond t (record { count = vs.count + 1; items = set vs.items vs.count v }) vs) (l ++ (v ∷ []))
+    at true e =
+        let less = ltb-true vs.count 9 e in
+        let c = h.count-is in
+        let r = h.room in
+        let q : vs.count ≡ length l = omega arith in
+        let m : min (length l) 9 ≡ length l = omega arith in
+        let o : length (l ++ (v ∷ [])) ≡ length l + 1 = length-append l (v ∷ []) in
+        let p : min (length (l ++ (v ∷ []))) 9 ≡ suc (length l) = omega arith in
+        let inside : length l < length vs.items = omega arith in
+        let before : take (length l) vs.items ≡ l = rw m at h.slice_is ∙ take_all 9 l (omega arith) in
+        record {
+          room = length-set vs.items vs.count v ∙ r;
+          count-is = omega arith;
+          slice_is =
+              ap (λ (i : ℕ). take i (set vs.items vs.count v)) p
+              ∙ ap (λ (i : ℕ). take (suc (length l)) (set vs.items i v)) q
+              ∙ take-suc-set vs.items (length l) v inside
+              ∙ ap (λ (x : List ℕ). x ++ (v ∷ [])) before
+              ∙ sym (take_all 9 (l ++ (v ∷ [])) (omega arith));
+        }
+    at false e =
+        let more = ltb-false vs.count 9 e in
+        let c = h.count-is in
+        let long : 9 ≤ length l = omega arith in
+        let o : length (l ++ (v ∷ [])) ≡ length l + 1 = length-append l (v ∷ []) in
+        let p : min (length (l ++ (v ∷ []))) 9 ≡ min (length l) 9 = omega arith in
+        record {
+          room = h.room;
+          count-is = c ∙ sym p;
+          slice_is = ap (λ (i : ℕ). take i vs.items) p ∙ h.slice_is ∙ sym (take-append-le 9 l (v ∷ []) long);
+        }
+
 -- slot s holds the first nine of l
 pub record Holds (n : Notes) (s : ℕ) (l : List ℕ) : Type 0 where
-  pub room : length n.values ≡ 162
-  pub rows : length n.counts ≡ 18
-  pub count-is : get_or n.counts s 0 ≡ min (length l) 9
-  pub slice_is : take (min (length l) 9) (drop (s * 9) n.values) ≡ take 9 l
+  pub rows : length n.values ≡ 18
+  pub keeps : Keeps (values_at n.values s) l
 
-module _ (n : Notes) (l : List ℕ) (v : ℕ) (h : Holds n n.slot l) (low : n.slot < 18) where
-  one_longer : length (l ++ (v ∷ [])) ≡ length l + 1
-  one_longer = length-append l (v ∷ [])
+module _ (n : Notes) (v : ℕ) (low : n.slot < 18) where
+  stored-own : (l : List ℕ) → Holds n n.slot l → Holds (stored_of n v) n.slot (l ++ (v ∷ []))
+  stored-own l h =
+      let x = pushed (values_at n.values n.slot) v in
+      let r = h.rows in
+      rw (lt-ltb n.slot 18 low)
+      (record {
+        rows = length-set n.values n.slot x ∙ r;
+        keeps =
+            subst (λ (y : Values). Keeps y (l ++ (v ∷ []))) (sym (get_or-set_same n.values n.slot x no_values (omega arith)))
+            (pushed-keeps (values_at n.values n.slot) l v h.keeps);
+      })
 
-  put_own : get_or n.counts n.slot 0 < 9 → Holds (put_of n v) n.slot (l ++ (v ∷ []))
-  put_own less =
-      let r = h.room in
-      let k = h.rows in
-      let c = h.count-is in
-      let s = n.slot in
-      let short : length l < 9 = omega arith in
-      let e : get_or n.counts s 0 ≡ length l = omega arith in
-      let m : min (length l) 9 ≡ length l = omega arith in
-      let o = one_longer in
-      let p : min (length (l ++ (v ∷ []))) 9 ≡ suc (length l) = omega arith in
-      let inside : length l < length (drop (s * 9) n.values) = rw (length-drop (s * 9) n.values) (omega arith) in
-      let before : take (length l) (drop (s * 9) n.values) ≡ l = rw m at h.slice_is ∙ take_all 9 l (omega arith) in
-      record {
-        room = length-set n.values (s * 9 + get_or n.counts s 0) v ∙ r;
-        rows = length-set n.counts s (get_or n.counts s 0 + 1) ∙ k;
-        count-is = get_or-set_same n.counts s (get_or n.counts s 0 + 1) 0 (omega arith) ∙ (omega arith);
-        slice_is =
-            ap (λ (i : ℕ). take i (drop (s * 9) (set n.values (s * 9 + get_or n.counts s 0) v))) p
-            ∙ ap (take (suc (length l))) (drop-set-add (s * 9) n.values (get_or n.counts s 0) v)
-            ∙ ap (λ (i : ℕ). take (suc (length l)) (set (drop (s * 9) n.values) i v)) e
-            ∙ take-suc-set (drop (s * 9) n.values) (length l) v inside
-            ∙ ap (λ (x : List ℕ). x ++ (v ∷ [])) before
-            ∙ sym (take_all 9 (l ++ (v ∷ [])) (omega arith));
-      }
-
-  full-own : 9 ≤ get_or n.counts n.slot 0 → Holds n n.slot (l ++ (v ∷ []))
-  full-own more =
-      let c = h.count-is in
-      let long : 9 ≤ length l = omega arith in
-      let o = one_longer in
-      let p : min (length (l ++ (v ∷ []))) 9 ≡ min (length l) 9 = omega arith in
-      record {
-        room = h.room;
-        rows = h.rows;
-        count-is = c ∙ sym p;
-        slice_is = ap (λ (i : ℕ). take i (drop (n.slot * 9) n.values)) p ∙ h.slice_is ∙ sym (take-append-le 9 l (v ∷ []) long);
-      }
-
-  stored-own : Holds (stored_of n v) n.slot (l ++ (v ∷ []))
-  stored-own = rw (lt-ltb n.slot 18 low) (at (ltb (get_or n.counts n.slot 0) 9) refl)
-    where
-      at : (t : Bool) → ltb (get_or n.counts n.slot 0) 9 ≡ t → Holds (cond t (put_of n v) n) n.slot (l ++ (v ∷ []))
-      at true e = put_own (ltb-true (get_or n.counts n.slot 0) 9 e)
-      at false e = full-own (ltb-false (get_or n.counts n.slot 0) 9 e)
-
--- a value of another slot
-apart-slice : (x : List ℕ) (k a i v : ℕ) → k ≤ 9 → (t : Bool) → ltb i a ≡ t → (a ≤ i → a + 9 ≤ i) → take k (drop a (set x i v)) ≡ take k (drop a x)
-apart-slice x k a i v few true e far = ap (take k) (drop-set-lt a x i v (ltb-true i a e))
-apart-slice x k a i v few false e far =
-    let q = far (ltb-false i a e) in
-    let f : a + (i - a) ≡ i = omega arith in
-    ap (λ (j : ℕ). take k (drop a (set x j v))) (sym f)
-    ∙ ap (take k) (drop-set-add a x (i - a) v)
-    ∙ take-set-le k (drop a x) (i - a) v (omega arith)
-
-module _ (n : Notes) (s : ℕ) (l : List ℕ) (v : ℕ) (h : Holds n s l) (low : n.slot < 18) (ne : s ≡ n.slot → ⊥) where
-  put_other : get_or n.counts n.slot 0 < 9 → Holds (put_of n v) s l
-  put_other less =
-      let i = n.slot * 9 + get_or n.counts n.slot 0 in
-      record {
-        room = length-set n.values i v ∙ h.room;
-        rows = length-set n.counts n.slot (get_or n.counts n.slot 0 + 1) ∙ h.rows;
-        count-is = get_or-set_other n.counts n.slot s (get_or n.counts n.slot 0 + 1) 0 (λ q. ne q) ∙ h.count-is;
-        slice_is =
-            apart-slice n.values (min (length l) 9) (s * 9) i v (omega arith) (ltb i (s * 9)) refl
-            (λ q. far s n.slot (get_or n.counts n.slot 0) ne less q)
-            ∙ h.slice_is;
-      }
-    where
-      far : (s r c : ℕ) → (s ≡ r → ⊥) → c < 9 → s * 9 ≤ r * 9 + c → s * 9 + 9 ≤ r * 9 + c
-      far s r c ne less q = omega arith
-
-  stored_other : Holds (stored_of n v) s l
-  stored_other = rw (lt-ltb n.slot 18 low) (at (ltb (get_or n.counts n.slot 0) 9) refl)
-    where
-      at : (t : Bool) → ltb (get_or n.counts n.slot 0) 9 ≡ t → Holds (cond t (put_of n v) n) s l
-      at true e = put_other (ltb-true (get_or n.counts n.slot 0) 9 e)
-      at false e = h
+  stored_other : (s : ℕ) (l : List ℕ) → Holds n s l → (s ≡ n.slot → ⊥) → Holds (stored_of n v) s l
+  stored_other s l h ne =
+      let x = pushed (values_at n.values n.slot) v in
+      rw (lt-ltb n.slot 18 low)
+      (record {
+        rows = length-set n.values n.slot x ∙ h.rows;
+        keeps = subst (λ (y : Values). Keeps y l) (sym (get_or-set_other n.values n.slot s x no_values (λ q. ne q))) h.keeps;
+      })
 
 module _ (n : Notes) (v : ℕ) where
   value-slot : (value_of n v).slot ≡ n.slot
-  value-slot = at (ltb 4_294_967_295 v) (ltb n.slot 18) (ltb (get_or n.counts n.slot 0) 9)
+  value-slot = at (ltb 4_294_967_295 v) (ltb n.slot 18)
     where
-      at : (a b c : Bool) → (cond a (marked_of n true) (cond b (cond c (put_of n v) n) n)).slot ≡ n.slot
-      at true b c = refl
-      at false true true = refl
-      at false true false = refl
-      at false false c = refl
+      at : (a b : Bool) → (cond a (marked_of n true) (cond b (put_of n (pushed (values_at n.values n.slot) v)) n)).slot ≡ n.slot
+      at true b = refl
+      at false true = refl
+      at false false = refl
 
   value-other : (s : ℕ) (l : List ℕ) → Holds n s l → n.slot < 18 → (s ≡ n.slot → ⊥) → Holds (value_of n v) s l
   value-other s l h low ne = at (ltb 4_294_967_295 v)
     where
       at : (t : Bool) → Holds (cond t (marked_of n true) (stored_of n v)) s l
-      at true = record { room = h.room; rows = h.rows; count-is = h.count-is; slice_is = h.slice_is }
-      at false = stored_other n s l v h low ne
+      at true = record { rows = h.rows; keeps = h.keeps }
+      at false = stored_other n v low s l h ne
 
 values-slot : (n : Notes) (vs : Row ℕ) → (values_notes n vs).slot ≡ n.slot
 values-slot n none = refl
@@ -259,7 +221,7 @@ value-own n s l v e low fit h = at s e low h
   where
     at : (s : ℕ) → n.slot ≡ s → s < 18 → Holds n s l → Holds (value_of n v) s (l ++ (v ∷ []))
     at s e low h =
-        rw (fit, ← e) (stored-own n l v (subst (λ (k : ℕ). Holds n k l) (sym e) h) (subst (λ (k : ℕ). k < 18) (sym e) low))
+        rw (fit, ← e) (stored-own n v (subst (λ (k : ℕ). k < 18) (sym e) low) l (subst (λ (k : ℕ). Holds n k l) (sym e) h))
 
 pub values-own : (n : Notes) (vs : Row ℕ) (s : ℕ) (l : List ℕ) → n.slot ≡ s → s < 18 → any_too_large vs ≡ false → Holds n s l
     → Holds (values_notes n vs) s (l ++ listed vs)

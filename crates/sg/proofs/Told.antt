@@ -10,12 +10,13 @@ use lib.ListN.{length, get_or, replicate}
 use Rattle.tariff.proofs.Both.{both_left, both_right}
 use Rattle.grammar.specs.Grammar.{Row, none, ◌▹◌, single, list, Item, keep, valued, Signal, bare, braced, Text, empty, signals, bytes}
 use Rattle.grammar.specs.Meaning.{Known, ◌↣◌, known_signals, items_of, keep_slot, Form, alone, with_number, with_list, Given, given, item_by, items_by, signal_by, signals_by, text_by, has, listed, values_of, form_is_wrong, any_too_large, any_faulty}
-use Rattle.notes.specs.Noting.{slot_in, item_slot, signal_slot, no_notes, has_in, touch_of, stored_of, value_of, marked_of, signal_of, item_of, list_of}
+use Rattle.notes.specs.Noting.{no_values, values_at, slot_in, item_slot, signal_slot, no_notes, has_in, touch_of, stored_of, value_of, marked_of, signal_of, item_of, list_of}
+use Rattle.notes.specs.declared.values.Values.{Values}
 use Rattle.notes.specs.declared.Notes.{Notes}
 use Rattle.scanner.specs.Codes.{code_of, number_of}
 use Rattle.sg.specs.Readings.{item_notes, items_notes, signal_notes, signals_notes, text_notes}
 use Rattle.sg.proofs.Codes.{items_all}
-use Rattle.sg.proofs.Stored.{item_coded, signal_coded, numbers, values_notes, Noted, values-noted, numbers-noted, Holds, values_other, values-own, or_left, or_right}
+use Rattle.sg.proofs.Stored.{item_coded, signal_coded, numbers, values_notes, Noted, values-noted, numbers-noted, Keeps, Holds, values_other, values-own, or_left, or_right}
 
 abbrev item_on : ℕ → Item → Given
 item_on s i = item_by item_coded signal_coded number_of s i
@@ -49,8 +50,8 @@ add_given n (given s f vs v) = value_of (values_notes (marked_of (touch_of n s) 
 -- what the notes tell of what was given so far
 pub record Tells (es : Row Given) (n : Notes) : Type 0 where
   pub told-bad : n.bad ≡ any_faulty es
-  pub told-size : length n.counts ≡ 18
-  pub told-has : any_faulty es ≡ false → (s : ℕ) → s < 17 → has_in n.counts s ≡ has es s
+  pub told-size : length n.values ≡ 18
+  pub told-has : any_faulty es ≡ false → (s : ℕ) → s < 17 → has_in n.values s ≡ has es s
   pub told-values : any_faulty es ≡ false → (s : ℕ) → s < 17 → Holds n s (values_of es s)
 
 module _ {es : Row Given} {n : Notes} (h : Tells es n) (s : ℕ) (f : Form) (vs : Row ℕ) (v : ℕ) (low : s ≤ 17) where
@@ -58,13 +59,13 @@ module _ {es : Row Given} {n : Notes} (h : Tells es n) (s : ℕ) (f : Form) (vs 
   noted = values-noted (marked_of (touch_of n s) (form_is_wrong s f)) vs v h.told-size (omega arith)
 
   more-bad : (w : Bool) → any_faulty es ≡ w
-      → ((w || (eqb s 17 || has_in n.counts s)) || form_is_wrong s f) || any_too_large (vs ▹ v)
+      → ((w || (eqb s 17 || has_in n.values s)) || form_is_wrong s f) || any_too_large (vs ▹ v)
       ≡ w || (eqb s 17 || (has es s || (form_is_wrong s f || any_too_large (vs ▹ v))))
   more-bad true e = refl
   more-bad false e = at (eqb s 17) refl
     where
       at : (u : Bool) → eqb s 17 ≡ u
-          → ((u || has_in n.counts s) || form_is_wrong s f) || any_too_large (vs ▹ v) ≡ u || (has es s || (form_is_wrong s f || any_too_large (vs ▹ v)))
+          → ((u || has_in n.values s) || form_is_wrong s f) || any_too_large (vs ▹ v) ≡ u || (has es s || (form_is_wrong s f || any_too_large (vs ▹ v)))
       at true q = refl
       at false q =
           let ne = eqb-false s 17 q in
@@ -94,17 +95,17 @@ module _ {es : Row Given} {n : Notes} (h : Tells es n) (s : ℕ) (f : Form) (vs 
     alone-there : values_of es s ≡ []
     alone-there = not_there es s (or_left (has es s) (form_is_wrong s f || any_too_large (vs ▹ v)) known)
 
-    more-has : (r : ℕ) → r < 17 → has_in (add_given n (given s f vs v)).counts r ≡ eqb r s || has es r
+    more-has : (r : ℕ) → r < 17 → has_in (add_given n (given s f vs v)).values r ≡ eqb r s || has es r
     more-has r less = at (eqb r s) refl
       where
-        at : (t : Bool) → eqb r s ≡ t → has_in (add_given n (given s f vs v)).counts r ≡ t || has es r
+        at : (t : Bool) → eqb r s ≡ t → has_in (add_given n (given s f vs v)).values r ≡ t || has es r
         at true q = rw (eqb-true r s q) (noted.here fits)
-        at false q = ap (λ (k : ℕ). ltb 0 k) (noted.others r (eqb-false r s q)) ∙ h.told-has before r less
+        at false q = noted.others r (eqb-false r s q) ∙ h.told-has before r less
 
     held : (k : ℕ) → k < 17 → Holds (marked_of (touch_of n s) (form_is_wrong s f)) k (values_of es k)
     held k few =
         let q = h.told-values before k few in
-        record { room = q.room; rows = q.rows; count-is = q.count-is; slice_is = q.slice_is }
+        record { rows = q.rows; keeps = q.keeps }
 
     more-values : (r : ℕ) → r < 17 → Holds (add_given n (given s f vs v)) r (cond (eqb r s) (listed (vs ▹ v)) (values_of es r))
     more-values r less = at (eqb r s) refl
@@ -123,7 +124,7 @@ module _ {es : Row Given} {n : Notes} (h : Tells es n) (s : ℕ) (f : Form) (vs 
       record {
         told-bad =
             noted.bad-is
-            ∙ ap (λ (w : Bool). ((w || (eqb s 17 || has_in n.counts s)) || form_is_wrong s f) || any_too_large (vs ▹ v)) h.told-bad
+            ∙ ap (λ (w : Bool). ((w || (eqb s 17 || has_in n.values s)) || form_is_wrong s f) || any_too_large (vs ▹ v)) h.told-bad
             ∙ more-bad (any_faulty es) refl;
         told-size = noted.size;
         told-has = more-has;
@@ -132,7 +133,7 @@ module _ {es : Row Given} {n : Notes} (h : Tells es n) (s : ℕ) (f : Form) (vs 
 
 marked-false : (n : Notes) → marked_of n false ≡ n
 marked-false n =
-    ap (λ (t : Bool). record { bad = t; signal = n.signal; slot = n.slot; counts = n.counts; values = n.values }) (or-false n.bad)
+    ap (λ (t : Bool). record { bad = t; signal = n.signal; slot = n.slot; values = n.values }) (or-false n.bad)
 
 item_noted : (n : Notes) (i : Item) → item_notes n i ≡ add_given n (item_on n.signal i)
 item_noted n keep = ap (λ (m : Notes). stored_of m 1) (sym (marked-false (touch_of n (keep_slot n.signal))))
@@ -209,7 +210,7 @@ name-told {es} {n} c h =
             told-has = u.told-has;
             told-values = λ q r less.
                 let k = u.told-values q r less in
-                record { room = k.room; rows = k.rows; count-is = k.count-is; slice_is = k.slice_is };
+                record { rows = k.rows; keeps = k.keeps };
           };
     }
 
@@ -217,17 +218,30 @@ signal-told : {es : Row Given} {n : Notes} (s : Signal) → Tells es n → Tells
 signal-told (bare m) h = (name-told (code_of m) h).tells
 signal-told (braced m is i) h = (item_told i (items_told is (name-told (code_of m) h))).tells
 
-zeros : (n s : ℕ) → ◌≡◌ {A = ℕ} (get_or (replicate n 0) s 0) 0
-zeros zero s = refl
-zeros (suc n) zero = refl
-zeros (suc n) (suc s) = zeros n s
+blanks : (n s : ℕ) → get_or (replicate n no_values) s no_values ≡ no_values
+blanks zero s = refl
+blanks (suc n) zero = refl
+blanks (suc n) (suc s) = blanks n s
+
+nothing-kept : (s : ℕ) → Keeps (values_at no_notes.values s) []
+nothing-kept s = subst (λ (x : Values). Keeps x []) (sym (blanks 18 s)) (record { room = refl; count-is = refl; slice_is = refl })
+
+nothing-given : (s : ℕ) → has_in no_notes.values s ≡ false
+unfolding has_in
+nothing-given s = at (ltb s 18)
+  where
+    at : (t : Bool) → ltb 0 (cond t (values_at no_notes.values s).count 0) ≡ false
+    at false = refl
+    at true = ap (λ (x : Values). ltb 0 x.count) (blanks 18 s)
 
 signals-told : (ss : Row Signal) → Tells (signals_on ss) (signals_notes ss)
-signals-told none = record { told-bad = refl; told-size = refl; told-has = λ e s less. at s (ltb s 18); told-values = λ e s less. record { room = refl; rows = refl; count-is = zeros 18 s; slice_is = refl } }
-  where
-    at : (s : ℕ) (t : Bool) → ltb 0 (cond t (get_or no_notes.counts s 0) 0) ≡ false
-    at s false = refl
-    at s true = ap (λ (k : ℕ). ltb 0 k) (zeros 18 s)
+signals-told none =
+    record {
+      told-bad = refl;
+      told-size = refl;
+      told-has = λ e s less. nothing-given s;
+      told-values = λ e s less. record { rows = refl; keeps = nothing-kept s };
+    }
 signals-told (ss ▹ s) = signal-told s (signals-told ss)
 
 pub text-told : (t : Text) → Tells (text_on t) (text_notes t)

@@ -5,6 +5,17 @@ ghost use Rattle.steps.specs.Steps.{distance_after, after_counted, after_phase, 
 use super::{Waiting, intervals};
 use tariff::{Phase, Tariff};
 
+// Where a phased tariff with so many phases stands: before slot `pulse` of a charge interval of a phase, as in its Tariff.
+#[derive(Clone, Copy)]
+pub(crate) struct Position {
+    pub phases: [Phase; 8],
+    pub count: u32,
+    pub phase: u32,
+    pub entry: u64,
+    pub left: u32,
+    pub pulse: u32,
+}
+
 // The ticks from slot k of an em with C > 0 to slot k + 1, each multiplied before it is divided, so that none drifts.
 #[tactic(auto, unfolding(crate::specs::Steps::distance_after))]
 fn distance_after(count: u32, period: u32, k: u32) -> u64
@@ -33,24 +44,6 @@ pub(crate) fn after_counted(pulse: u32, count: u32, period: u32, k: u32) -> Wait
     }
 }
 
-// After the last interval of phase i, which ends in `wait` ticks: the next phase, if there is one.
-#[tactic(auto, unfolding(crate::specs::Steps::after_phase))]
-fn after_phase(phases: [Phase; 8], count: u32, i: u32, wait: u64) -> Waiting
-    ensures { result ≡ after_phase phases count i wait }
-{
-    if u64::from(i) + 1 < u64::from(count) {
-        let next = Tariff::Phased {
-            phase: i + 1,
-            entry: 0,
-            left: tariff::phase_at(phases, i + 1).pd,
-            pulse: 0,
-        };
-        Waiting::new(next, wait)
-    } else {
-        Waiting::new(Tariff::Ending, wait)
-    }
-}
-
 // The ticks that are left of so many seconds from an interval's start at slot j, where slots are `pri` apart.
 fn ticks_left(seconds: u32, j: u32, pri: u32) -> u64
     ensures { result ≡ 1000 * seconds - j * pri }
@@ -58,56 +51,59 @@ fn ticks_left(seconds: u32, j: u32, pri: u32) -> u64
     (1000 * u64::from(seconds)).saturating_sub(u64::from(j) * u64::from(pri))
 }
 
-// After slot j, the last of an interval of phase i, which is p: the next interval of the phase, if there is one.
-#[tactic(auto, unfolding(crate::specs::Steps::after_interval))]
-fn after_interval(
-    phases: [Phase; 8],
-    count: u32,
-    i: u32,
-    entry: u64,
-    left: u32,
-    j: u32,
-    p: Phase,
-) -> Waiting
-    ensures { result ≡ after_interval phases count i entry left j p }
-{
-    // An endless phase goes on, and so does one with seconds left after this interval.
-    if left == 0 || p.ci < left {
-        let tariff = Tariff::Phased {
-            phase: i,
-            entry: intervals::next_entry(p, entry),
-            left: left.saturating_sub(p.ci),
-            pulse: 0,
-        };
-        Waiting::new(tariff, ticks_left(p.ci, j, p.pri))
-    } else {
-        after_phase(phases, count, i, ticks_left(left, j, p.pri))
+impl Position {
+    // After the last interval of the phase, which ends in `wait` ticks: the next phase, if there is one.
+    #[tactic(auto, unfolding(crate::specs::Steps::after_phase))]
+    fn after_phase(self, wait: u64) -> Waiting
+        ensures { result ≡ after_phase self.phases self.count self.phase wait }
+    {
+        if u64::from(self.phase) + 1 < u64::from(self.count) {
+            let next = Tariff::Phased {
+                phase: self.phase + 1,
+                entry: 0,
+                left: tariff::phase_at(self.phases, self.phase + 1).pd,
+                pulse: 0,
+            };
+            Waiting::new(next, wait)
+        } else {
+            Waiting::new(Tariff::Ending, wait)
+        }
     }
-}
 
-// After slot j of an interval of m pulses of phase i, which is p: slot j + 1 of the interval, if there is one.
-#[tactic(auto, unfolding(crate::specs::Steps::after_phased))]
-pub(crate) fn after_phased(
-    phases: [Phase; 8],
-    count: u32,
-    i: u32,
-    entry: u64,
-    left: u32,
-    j: u32,
-    p: Phase,
-    m: u32,
-) -> Waiting
-    ensures { result ≡ after_phased phases count i entry left j p m }
-{
-    if u64::from(j) + 1 < u64::from(m) {
-        let tariff = Tariff::Phased {
-            phase: i,
-            entry,
-            left,
-            pulse: j + 1,
-        };
-        Waiting::new(tariff, u64::from(p.pri))
-    } else {
-        after_interval(phases, count, i, entry, left, j, p)
+    // After the last slot of an interval of the phase, which is p: the next interval of the phase, if there is one.
+    #[tactic(auto, unfolding(crate::specs::Steps::after_interval))]
+    fn after_interval(self, p: Phase) -> Waiting
+        ensures { result ≡ after_interval self.phases self.count self.phase self.entry self.left self.pulse p }
+    {
+        // An endless phase goes on, and so does one with seconds left after this interval.
+        if self.left == 0 || p.ci < self.left {
+            let next = Tariff::Phased {
+                phase: self.phase,
+                entry: intervals::next_entry(p, self.entry),
+                left: self.left.saturating_sub(p.ci),
+                pulse: 0,
+            };
+            Waiting::new(next, ticks_left(p.ci, self.pulse, p.pri))
+        } else {
+            self.after_phase(ticks_left(self.left, self.pulse, p.pri))
+        }
+    }
+
+    // After a slot of an interval of m pulses of the phase, which is p: the next slot of the interval, if there is one.
+    #[tactic(auto, unfolding(crate::specs::Steps::after_phased))]
+    pub(crate) fn after_slot(self, p: Phase, m: u32) -> Waiting
+        ensures { result ≡ after_phased self.phases self.count self.phase self.entry self.left self.pulse p m }
+    {
+        if u64::from(self.pulse) + 1 < u64::from(m) {
+            let next = Tariff::Phased {
+                phase: self.phase,
+                entry: self.entry,
+                left: self.left,
+                pulse: self.pulse + 1,
+            };
+            Waiting::new(next, u64::from(p.pri))
+        } else {
+            self.after_interval(p)
+        }
     }
 }

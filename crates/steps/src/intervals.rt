@@ -11,10 +11,10 @@ pub(crate) fn pulses_at(p: Phase, entry: u64) -> u32
     ensures { result ≡ pulses_at p entry }
 {
     // No map has more than a hundred entries.
-    if entry >= 100 {
+    let Ok(entry) = u32::try_from(entry) else {
         return 0;
-    }
-    match pulse_map::element_at(p.repx, p.repn, entry as u32) {
+    };
+    match pulse_map::element_at(p.repx, p.repn, entry) {
         Some(Element::X) => p.pcx,
         Some(Element::N) => p.pcn,
         None => 0,
@@ -26,9 +26,9 @@ pub(crate) fn pulses_at(p: Phase, entry: u64) -> u32
 pub(crate) fn next_entry(p: Phase, entry: u64) -> u64
     ensures { result ≡ next_entry p entry }
 {
-    let length = p.repx as u64 + p.repn as u64;
-    if entry < length {
-        (entry + 1) % length
+    let next = entry.saturating_add(1);
+    if next < u64::from(p.repx) + u64::from(p.repn) {
+        next
     } else {
         0
     }

@@ -9,6 +9,7 @@ ghost use Rattle.tariff.specs.declared.Tariff.TheVariants.{Phased};
 mod after;
 mod intervals;
 
+use after::Position;
 use tariff::{Phase, Slot, Tariff};
 
 // A tariff, and the ticks to its next slot or to its completion.
@@ -55,14 +56,16 @@ fn slot_of(m: u32) -> Slot
     if m == 0 { Slot::Empty } else { Slot::Pulse }
 }
 
-// What is due of a phased tariff with so many phases.
-#[tactic(auto, unfolding(crate::specs::Steps::due_of))]
-fn due_phased(phases: [Phase; 8], count: u32, i: u32, entry: u64, left: u32, j: u32) -> Stepped
-    ensures { result ≡ due_of 0 phases count (Phased i entry left j) }
-{
-    let p = tariff::phase_at(phases, i);
-    let m = intervals::pulses_at(p, entry);
-    after::after_phased(phases, count, i, entry, left, j, p, m).stepped(Some(slot_of(m)), false)
+impl Position {
+    // What is due where it stands.
+    #[tactic(auto, unfolding(crate::specs::Steps::due_of))]
+    fn due(self) -> Stepped
+        ensures { result ≡ due_of 0 self.phases self.count (Phased self.phase self.entry self.left self.pulse) }
+    {
+        let p = tariff::phase_at(self.phases, self.phase);
+        let m = intervals::pulses_at(p, self.entry);
+        self.after_slot(p, m).stepped(Some(slot_of(m)), false)
+    }
 }
 
 // What is due when the wait is over, on a line with so many phases, whose pulses last `pulse` ticks.
@@ -84,8 +87,16 @@ fn due(tariff: Tariff, pulse: u32, phases: [Phase; 8], count: u32) -> Stepped
             phase,
             entry,
             left,
-            pulse: j,
-        } => due_phased(phases, count, phase, entry, left, j),
+            pulse,
+        } => Position {
+            phases,
+            count,
+            phase,
+            entry,
+            left,
+            pulse,
+        }
+        .due(),
         Tariff::Ending => Waiting::new(Tariff::Idle, 0).stepped(None, true),
     }
 }

@@ -1,7 +1,6 @@
 // Reads texts of controllers from standard input, one a line, and prints what each reads as.
 #![tactic(auto)]
 
-mod output;
 mod readings;
 
 use lines::{Input, Span};

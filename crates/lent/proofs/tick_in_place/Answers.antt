@@ -1,20 +1,32 @@
--- `tick_in_place` meets its contract: where the tick is quiet, its move is the line's.
-use Rattle.std.proofs.Common.{rules, ◌≡◌, refl, sym, ◌∙◌, Some, Option}
-use Rattle.state.specs.States.{quick_of}
+-- `tick_in_place` meets its contract: a quiet tick only moves time on.
+use Rattle.std.proofs.Common.{rules, ◌≡◌, true, false, refl, sym, ap, ◌∙◌}
+use Rattle.std.proofs.lemmas.Option.{same_Some}
+use Rattle.answers.specs.Fronts.{silent}
+use Rattle.state.specs.States.{quiet_of, quick_of, waited_of}
 use Rattle.state.specs.declared.Moved.{Moved}
-use Rattle.ticking.proofs.QuietTicks.{quick_moves}
+use Rattle.ticking.proofs.QuietTicks.{quiet_moves}
 use Rattle.line.specs.Lines.{move_of, tick_of}
 use Rattle.line.specs.declared.Line.{Line}
 use Rattle.lent.proofs.tick_in_place.Goals as goal
-use Rattle.lent.proofs.tick_in_place.Goals.{in-Some, in-None}
 
-quiet_is : (l : Line) (o : Option Moved) (m : Moved) → o ≡ quick_of l.pulse l.spacing l.state → o ≡ Some m → m ≡ move_of l
-quiet_is l o m is some = quick_moves l.pulse l.spacing l.phases l.count l.state m (sym is ∙ some)
+quiet-move : (l : Line) → quiet_of l.pulse l.spacing l.state ≡ true → move_of l ≡ record { state = waited_of l.spacing l.state; tick = silent; event = false }
+unfolding quick_of
+quiet-move l h = same_Some _ _ (sym (rw h at (quiet_moves l.pulse l.spacing l.phases l.count l.state h)))
+
+pub returns-then-is_quiet-clause-told : goal.returns-then-is_quiet-clause-told
+unfolding tick_of
+returns-then-is_quiet-clause-told c =
+    search rules ∙ ap (λ (m : Moved). m.tick) (sym (quiet-move c.args.line.now (sym c.is_quiet.ensures ∙ c.if-is_quiet.true)))
+
+pub returns-then-is_quiet-clause-moved : goal.returns-then-is_quiet-clause-moved
+unfolding tick_of
+returns-then-is_quiet-clause-moved c =
+    rw (quiet-move c.args.line.now (sym c.is_quiet.ensures ∙ c.if-is_quiet.true), c.waited-line.ensures) refl
 
 pub returns-clause-told : goal.returns-clause-told
 unfolding tick_of
-returns-clause-told c = elim c.match-quick.branch [ in-Some w ↦ rw (w.moved-is, quiet_is c.args.line.now c.quick.result w.in-Some.quiet c.quick.ensures w.in-Some.is) refl | in-None w ↦ search rules ]
+returns-clause-told c = rw c.moved-moved.ensures refl
 
 pub returns-clause-moved : goal.returns-clause-moved
 unfolding tick_of
-returns-clause-moved c = elim c.match-quick.branch [ in-Some w ↦ rw (w.moved-is, quiet_is c.args.line.now c.quick.result w.in-Some.quiet c.quick.ensures w.in-Some.is) refl | in-None w ↦ search rules ]
+returns-clause-moved c = rw c.moved-moved.ensures refl

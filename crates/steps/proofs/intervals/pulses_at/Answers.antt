@@ -12,5 +12,5 @@ unfolding pulses_at
 no-entry p e past =
     cases (no_map p.repx p.repn (e + 1)) (λ t. rw t) (λ t. absurd (omega (arith, has-map p.repx p.repn (e + 1) t)))
 
-pub returns-then-entry-ge100 : goal.returns-then-entry-ge100
-returns-then-entry-ge100 c = no-entry _ _ c.if-entry-ge100.true
+pub returns-in_default : goal.returns-in_default
+returns-in_default c = no-entry _ _ (omega (arith, c.in_default.ensures))

@@ -1,2 +1,0 @@
--- The files of this folder, lowest first.
-pub mod First
