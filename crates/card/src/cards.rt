@@ -42,7 +42,7 @@ impl Card {
         row.get(place as usize).copied()
     }
 
-    // One more line at the end of the row, for which there is room. A refused configuration adds none.
+    // One more line at the end of the row, if there is room. A refused configuration adds none.
     pub(crate) fn configure(
         &mut self,
         pulse: u32,

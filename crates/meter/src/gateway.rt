@@ -37,8 +37,8 @@ fn run(line: Line, n: u32, out: &mut Outlet<Stdout>) -> io::Result<Line> {
     let spacing = line.spacing;
     let mut state = line.state;
     for _ in 0..n {
-        if let Some(quiet) = state.quick(pulse, spacing) {
-            state = quiet.state;
+        if state.is_quiet(pulse, spacing) {
+            state = state.waited(spacing);
         } else {
             let busy = Line { state, ..line }.moved();
             state = busy.state;
