@@ -34,13 +34,13 @@ record Nine (s : Phases) : Type 0 where
 stored-nine : (s : Phases) (p : Phase) → Nine s → Nine (stored s p)
 stored-nine s p nine =
     record {
-      pri = length-set s.pri s.taken p.pri ∙ nine.pri;
-      pcx = length-set s.pcx s.taken p.pcx ∙ nine.pcx;
-      repx = length-set s.repx s.taken p.repx ∙ nine.repx;
-      pcn = length-set s.pcn s.taken p.pcn ∙ nine.pcn;
-      repn = length-set s.repn s.taken p.repn ∙ nine.repn;
-      ci = length-set s.ci s.taken p.ci ∙ nine.ci;
-      pd = length-set s.pd s.taken p.pd ∙ nine.pd;
+      pri = length-set _ _ _ ∙ nine.pri;
+      pcx = length-set _ _ _ ∙ nine.pcx;
+      repx = length-set _ _ _ ∙ nine.repx;
+      pcn = length-set _ _ _ ∙ nine.pcn;
+      repn = length-set _ _ _ ∙ nine.repn;
+      ci = length-set _ _ _ ∙ nine.ci;
+      pd = length-set _ _ _ ∙ nine.pd;
     }
 
 module _ (s : Phases) (p : Phase) (nine : Nine s) (room : s.taken < 9) where
