@@ -4,8 +4,9 @@
 ghost use Rattle.std.specs.Prelude.{◌≡◌};
 ghost use Rattle.lent_ticks.specs.Runs.{after_ticks, row_after, ticked_all};
 
-use descriptor::{BurstPart, TariffPart};
+use descriptor::{BurstPart, Descriptor, TariffPart};
 use line::Line;
+use phase_lists::PhaseLists;
 use std::io;
 use std::io::Read;
 
@@ -54,17 +55,21 @@ fn valued(mut line: Line, n: u32) -> Line
 
 // A line with this descriptor, of the three phases that the plain program's case has.
 fn described(tariff: TariffPart, burst: BurstPart) -> Line {
-    let pri = [1000, 500, 250];
-    let pcx = [3, 5, 3];
-    let repx = [37, 3, 2];
-    let pcn = [2, 4, 2];
-    let repn = [63, 7, 5];
-    let ci = [5, 5, 1];
-    let pd = [2400, 2400, 0];
-    let fresh = Line::make(50, 50, 0).line;
-    fresh
-        .describe(tariff, &pri, &pcx, &repx, &pcn, &repn, &ci, &pd, burst)
-        .line
+    let lists = PhaseLists {
+        pri: &[1000, 500, 250],
+        pcx: &[3, 5, 3],
+        repx: &[37, 3, 2],
+        pcn: &[2, 4, 2],
+        repn: &[63, 7, 5],
+        ci: &[5, 5, 1],
+        pd: &[2400, 2400, 0],
+    };
+    let given = Descriptor::Parts {
+        tariff,
+        lists,
+        burst,
+    };
+    Line::make(50, 50, 0).line.describe(given).line
 }
 
 // An em of this period that does not end.

@@ -6,4 +6,4 @@ use Rattle.lent_ticks.proofs.tick_row.Goals as goal
 
 pub loop-line-preserved : goal.loop-line-preserved
 loop-line-preserved c =
-    rw c.tick_in_place.ensures.1 (map_over_more ticked_once _ _ _ _ (omega arith) c.loop-line.invariant (grind (arith, common_steps)))
+    rw c.tick_in_place.ensures.moved (map_over_more ticked_once _ _ _ _ (omega arith) c.loop-line.invariant (grind (arith, common_steps)))
