@@ -47,7 +47,7 @@ text_has() { # CRATE FILE NAME
 # The sources that may hold a function: of a type, of a crate or a module, or of the section's crate.
 sources_of() { # CRATE FUNCTION
     case $2 in
-    [A-Z]*::*) grep -lE "^impl ${2%%::*} " crates/*/src/*.rt ;;
+    [A-Z]*::*) grep -lE "^impl(<[^>]*>)? ([A-Za-z]+ for )?${2%%::*}[ <]" crates/*/src/*.rt ;;
     *::*) ls "crates/${2%%::*}"/src/*.rt crates/*/src/"${2%%::*}.rt" 2>/dev/null ;;
     *) ls "crates/$1"/src/*.rt 2>/dev/null ;;
     esac
@@ -61,10 +61,10 @@ while read -r kind place name; do
         done
         ;;
     source)
-        grep -qsE "(fn|const|struct|enum) $name\\b" "crates/$place" || say "$place has no $name"
+        grep -qsE "(fn|const|struct|enum|type) $name\\b" "crates/$place" || say "$place has no $name"
         ;;
     function)
-        cat /dev/null $(sources_of "$place" "$name") | grep -qE "fn ${name##*::}\\(" || say "there is no function $name"
+        cat /dev/null $(sources_of "$place" "$name") | grep -qE "fn ${name##*::}[(<]" || say "there is no function $name"
         ;;
     *) say "$name stands after no file and no 'contract of'" ;;
     esac
