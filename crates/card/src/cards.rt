@@ -11,6 +11,7 @@ use std::io::Stdout;
 
 // A card: room for its lines, how many there are, the number of ticks so far, held at the largest number, the
 // dispatcher, and the descriptor that waits for phase lines, if one does.
+// Stays: fixed memory, so that the lines are an array with a number beside it.
 #[derive(Clone, Copy)]
 pub struct Card {
     pub lines: [Line; 65],
@@ -21,6 +22,7 @@ pub struct Card {
 }
 
 // Puts an answer.
+// Stays: one line in each program, since printing knows no outlet.
 pub(crate) fn put_answer(out: &mut Outlet<Stdout>, answer: Answer) -> io::Result<()> {
     out.put(|free| printing::put_answer(free, 0, answer))
 }

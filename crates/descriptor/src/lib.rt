@@ -13,7 +13,8 @@ pub use tables::phases_for;
 pub use tickets::ticket_ruling;
 
 // The tariff part of a descriptor. The lists of a phased tariff stand beside it.
-#[derive(Clone, Copy)]
+// Stays: none and keep are words of the paper like the others, and an Option would set one of them apart.
+#[derive(Clone, Copy, PartialEq, Eq, Debug)]
 pub enum TariffPart {
     None,
     Keep,
@@ -23,7 +24,8 @@ pub enum TariffPart {
 }
 
 // The burst part of a descriptor.
-#[derive(Clone, Copy)]
+// Stays: none and keep, as in a tariff part.
+#[derive(Clone, Copy, PartialEq, Eq, Debug)]
 pub enum BurstPart {
     None,
     Keep,
@@ -42,14 +44,14 @@ pub enum Descriptor<'a> {
 }
 
 // What an on-hook event carries.
-#[derive(Clone, Copy)]
+#[derive(Clone, Copy, PartialEq, Eq, Debug)]
 pub enum Hook {
     Keep,
     Stop,
 }
 
 // Why a call was turned down.
-#[derive(Clone, Copy)]
+#[derive(Clone, Copy, PartialEq, Eq, Debug)]
 pub enum Refusal {
     Configuration,
     Period,

@@ -3,6 +3,7 @@ ghost use Rattle.std.specs.Prelude.{◌≡◌, MatchResult};
 ghost use Rattle.detector.specs.Request.{requested_by, ok, no, detector_number, reply_to};
 
 // The request that is on: no event, pr with its report period, or ric with its interval threshold.
+// Stays: the paper calls off a request like the other two.
 #[derive(Clone, Copy, PartialEq, Eq, Debug)]
 pub enum Request {
     Off,

@@ -18,6 +18,7 @@ use tariff::Phase;
 
 // A line: pulse length and spacing, its state, and the phases of a phased tariff with their number. The serial is the
 // number of accepted commands, held at 4,294,967,295.
+// Stays: fixed memory, so that the phases are eight with a number beside them.
 #[derive(Clone, Copy)]
 pub struct Line {
     pub pulse: u32,

@@ -18,6 +18,7 @@ pub struct Gateway {
 }
 
 // Puts an answer.
+// Stays: one line in each program, since printing knows no outlet.
 fn put_answer(out: &mut Outlet<Stdout>, answer: Answer) -> io::Result<()> {
     out.put(|free| printing::put_answer(free, 0, answer))
 }

@@ -4,6 +4,7 @@ ghost use Rattle.grammar.specs.Meaning.{first_or};
 ghost use Rattle.notes.specs.Noting.{no_values, pushed, kept};
 
 // How many values a name has, of which nine are counted, and nine places for them.
+// Stays: fixed memory, so that a text can be read without a failure for want of it.
 #[derive(Clone, Copy)]
 pub struct Values {
     pub count: usize,

@@ -5,6 +5,7 @@ ghost use Rattle.scanner.specs.Machine.{next_of, spaced_to};
 use super::Token;
 
 // What was read, and so what may come next. At the last place no text can be.
+// Stays: the last place is one that each byte keeps, so that a step needs no case of none.
 #[derive(Clone, Copy, PartialEq, Eq, Debug)]
 pub enum Place {
     Nothing,
