@@ -34,7 +34,7 @@ sent_in_turn d n [] = []
 sent_in_turn d n (ts ∷ rest) = sent_by d n ts ∷ sent_in_turn (after_tick d n ts) n rest
 
 abbrev pub reporting : Tick
-reporting = record { tariff = false; burst = false; front = Tariff; report = true }
+reporting = record { tariff = false; burst = false; front = Some Tariff; report = true }
 
 abbrev pub all_report : List Tick
 all_report = reporting ∷ reporting ∷ reporting ∷ []

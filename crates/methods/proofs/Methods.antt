@@ -67,6 +67,6 @@ module _ {M : Type 1} {𝓤 : Ura M} (𝓛 : Logic 𝓤) (𝓜 : Model 𝓤 𝓛
         clears = told (λ κs a. (L.clear_period.clauses 𝓛 𝓜.mem 𝓡.returns κs a).ensures tt) (L_code.clear_period.Met.met 𝓤 𝓛 𝓜 𝓡) (λ _ _ _ _. fact_mono 𝓤 _ _ (λ e. rw e));
         audits = told (λ κs a. (L.audit.clauses 𝓛 𝓜.mem 𝓡.returns κs a).ensures tt) (L_code.audit.Met.met 𝓤 𝓛 𝓜 𝓡) (λ _ _ _ _. fact_mono 𝓤 _ _ (λ e. rw e));
         ticks = told (λ κs a. (L.tick.clauses 𝓛 𝓜.mem 𝓡.returns κs a).ensures tt) (L_code.tick.Met.met 𝓤 𝓛 𝓜 𝓡) (λ _ _ _ _. fact_mono 𝓤 _ _ (λ e. rw e));
-        lent = told (λ κs a. (lent.clauses 𝓛 𝓜.mem 𝓡.returns κs a).ensures tt) (lent_met.met 𝓤 𝓛 𝓜 𝓡) (λ _ _ _ _. fact_mono 𝓤 _ _ (λ (e, f). lent-step _ e f));
+        lent = told (λ κs a. (lent.clauses 𝓛 𝓜.mem 𝓡.returns κs a).ensures tt) (lent_met.met 𝓤 𝓛 𝓜 𝓡) (λ _ _ _ _. both 𝓤 _ (λ e f. lent-step _ e f));
         on = told (λ κs a. (L.is_on.clauses 𝓛 𝓜.mem 𝓡.returns κs a).ensures tt) (L_code.is_on.Met.met 𝓤 𝓛 𝓜 𝓡) (λ _ _ _ _. fact_mono 𝓤 _ _ (λ e c a. rw e));
       }
