@@ -16,8 +16,8 @@ fn put_counters(out: &mut Outlet<Stdout>, audit: Audited) -> io::Result<()> {
     out.put(|free| printing::put_counters(free, 0, audit.cpc, audit.pcslr))
 }
 
-// The text that stands in a line of a script from a byte on.
-fn text_from(text: &[u8], from: usize) -> Descriptor<'_> {
+// The descriptor that stands as a text in a line of a script, from a byte on.
+fn text_descriptor(text: &[u8], from: usize) -> Descriptor<'_> {
     Descriptor::Text(text.get(from..).unwrap_or(&[]))
 }
 
@@ -47,29 +47,6 @@ impl Card {
         }
     }
 
-    // Obeys a command at a place of the row, which has a line.
-    fn at(
-        &mut self,
-        place: u32,
-        line: Line,
-        command: CardCommand,
-        text: &[u8],
-        out: &mut Outlet<Stdout>,
-    ) -> io::Result<()> {
-        match command {
-            CardCommand::On {
-                giving,
-                command,
-                ..
-            } => self.on(place, line, giving, command, out),
-            CardCommand::Audit(_) => put_counters(out, line.audit()),
-            CardCommand::Text { giving, from, .. } => {
-                self.give(place, line, giving, text_from(text, from), out)
-            }
-            _ => put_answer(out, Answer::Bad),
-        }
-    }
-
     // Obeys a command, which stands in this text. One at a place outside the row is bad.
     fn obey(
         &mut self,
@@ -84,10 +61,24 @@ impl Card {
                 let verdict = groups::rate(&mut self.lines, self.count, text, interval);
                 put_answer(out, Answer::from(verdict))
             }
-            CardCommand::On { place, .. }
-            | CardCommand::Audit(place)
-            | CardCommand::Text { place, .. } => match self.line_at(place) {
-                Some(line) => self.at(place, line, command, text, out),
+            CardCommand::On {
+                place,
+                giving,
+                command,
+            } => match self.line_at(place) {
+                Some(line) => self.on(place, line, giving, command, out),
+                None => put_answer(out, Answer::Bad),
+            },
+            CardCommand::Audit(place) => match self.line_at(place) {
+                Some(line) => put_counters(out, line.audit()),
+                None => put_answer(out, Answer::Bad),
+            },
+            CardCommand::Text {
+                place,
+                giving,
+                from,
+            } => match self.line_at(place) {
+                Some(line) => self.give(place, line, giving, text_descriptor(text, from), out),
                 None => put_answer(out, Answer::Bad),
             },
         }

@@ -15,6 +15,5 @@ fn rated(lines: &mut [Line], n: usize, places: &[u32], interval: u32) -> Verdict
 
 // The same for the places that a line of a script names.
 pub(crate) fn rate(lines: &mut [Line], n: usize, text: &[u8], interval: u32) -> Verdict {
-    let places = script::read_places(text);
-    rated(lines, n, &places.list[..places.count.min(64)], interval)
+    rated(lines, n, script::read_places(text).as_slice(), interval)
 }

@@ -31,16 +31,15 @@ fn react(
 
 // Reads and obeys until the input ends. A proved loop has to end, and nothing says that the input does: the steps are
 // counted up to a number that no run reaches.
-// Stays: the loop is in each program; one for all is a public function over a trait, and its contract is longer.
 fn serve(from: &mut Stdin, inp: &mut [u8], out: &mut Outlet<Stdout>) -> io::Result<()> {
     let mut card = Card::new();
     let mut input = Input::new();
     for _ in 0..u64::MAX {
         let line = input.next(inp);
-        react(&mut card, inp, line, out)?;
         if input.is_over(line) {
             return card.close(out);
         }
+        react(&mut card, inp, line, out)?;
         input = input.onward(from, inp, line);
     }
     Ok(())

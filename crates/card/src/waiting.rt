@@ -5,7 +5,6 @@ use script::Giving;
 
 // A descriptor that waits for phase lines: how many are missing, the place of its line, how it is given, its burst part,
 // and the phases that were read.
-// Stays: that of `meter` has no place and no giving, and the rest is two lines.
 #[derive(Clone, Copy)]
 pub struct Waiting {
     pub missing: u32,

@@ -31,7 +31,7 @@ fn put_tick(out: &mut Outlet<Stdout>, clock: u32, cpc: u32, tick: Tick) -> io::R
     out.put(|free| printing::put_tick(free, 0, clock, cpc, tick))
 }
 
-// The line after n ticks, of which what each tells is put. All of it is looked at only where a tick is busy.
+// The line after n ticks; what each tick tells is put. The whole line is looked at only where a tick is busy.
 // Stays: the state beside the line; ticks on the field `line.state` itself took twice the time.
 fn run(line: Line, n: u32, out: &mut Outlet<Stdout>) -> io::Result<Line> {
     let pulse = line.pulse;
@@ -144,7 +144,7 @@ impl Gateway {
     }
 
     // At the end of the input, a descriptor whose phase lines are missing is bad.
-    pub(crate) fn close(self, out: &mut Outlet<Stdout>) -> io::Result<()> {
+    pub(crate) fn close(&self, out: &mut Outlet<Stdout>) -> io::Result<()> {
         if self.waiting.is_some() {
             put_answer(out, Answer::Bad)?;
         }

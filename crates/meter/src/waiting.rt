@@ -3,7 +3,6 @@ use descriptor::BurstPart;
 use phase_lines::Phases;
 
 // A descriptor that waits for phase lines: how many are missing, its burst part, and the phases that were read.
-// Stays: that of `card` has a place and a giving beside it, and the rest is two lines.
 #[derive(Clone, Copy)]
 pub struct Waiting {
     pub missing: u32,

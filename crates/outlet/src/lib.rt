@@ -52,8 +52,9 @@ impl<W: Write> Outlet<W> {
         size.is_some()
     }
 
-    // Puts a text: `text` puts it at the front of a free part of the buffer, and answers how long it is, or None where
-    // it has no room there. What is held back is then written out, and the whole buffer is free.
+    // Puts a text: `text` puts it at the front of the free part of the buffer, and answers how long it is. Where it
+    // answers None, what is held back is written out, and it is called once more, at the whole buffer. A text that has no
+    // room there either is not put.
     pub fn put<F: FnMut(&mut [u8]) -> Option<usize>>(&mut self, mut text: F) -> io::Result<()>
         requires { F.IsAlwaysCallable text }
         ensures { Puts F.FnMut W.contents text self.old result self.new }
@@ -102,7 +103,8 @@ impl<W: Write> Write for Outlet<W> {
         Ok(size)
     }
 
-    // Writes out what is held back. After a failure, what was not written is held back still.
+    // Writes out what is held back. After a failure, what was not written is held back still. This is the flush of a
+    // writer; `out.flush()` is the outlet's own.
     fn flush(&mut self) -> io::Result<()>
         ensures bytes { Keeps (known_of W.contents self.old) (known_of W.contents self.new) }
         ensures all { OnOk result (self.new.held ≡ 0) }

@@ -1,4 +1,4 @@
-// The phase lines that a descriptor of a script has got so far, and the descriptor with them on a line.
+// The phase lines that a descriptor of a script has got so far, and the descriptor with them.
 #![tactic(auto)]
 
 ghost use Rattle.std.specs.Prelude.{◌≡◌, take};

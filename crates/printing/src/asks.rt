@@ -19,7 +19,8 @@ fn put_ticket(buf: &mut [u8], at: usize, answer: Answer, ticket: u32) -> usize
     }
 }
 
-// Puts the line that answers an ask from `at` on.
+// Puts the line that answers an ask from `at` on, and answers the place after it; None where the longest
+// text has no room, and the buffer stays.
 pub fn put_asked(buf: &mut [u8], at: usize, answer: Answer, ticket: u32) -> Option<usize>
     ensures { (result, buf.new) ≡ written buf.old at (asked_text answer ticket) }
 {

@@ -23,7 +23,7 @@ pub enum Answer {
     Bad,
 }
 
-// A call's answer: the burst pulses cancelled, or why it was turned down.
+// What a call's answer is printed as.
 impl From<Result<u32, Refusal>> for Answer {
     ghost from_gives = { λ verdict answer. answer ≡ answer_of verdict };
 

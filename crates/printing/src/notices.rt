@@ -25,7 +25,8 @@ fn put_numbers(
     put_around(buf, at, b"", reports, b"\n")
 }
 
-// Puts a notice's line from `at` on.
+// Puts a notice's line from `at` on, and answers the place after it; None where the longest
+// text has no room, and the buffer stays.
 pub fn put_notice(
     buf: &mut [u8],
     at: usize,
@@ -53,7 +54,8 @@ pub(crate) fn put_two(buf: &mut [u8], at: usize, head: &[u8], a: u32, b: u32) ->
     put_around(buf, at, b"", b, b"\n")
 }
 
-// Puts the line of the counters from `at` on.
+// Puts the line of the counters from `at` on, and answers the place after it; None where the longest
+// text has no room, and the buffer stays.
 pub fn put_counters(buf: &mut [u8], at: usize, cpc: u32, pcslr: u32) -> Option<usize>
     ensures { (result, buf.new) ≡ written buf.old at (counters_text cpc pcslr) }
 {

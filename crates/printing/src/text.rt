@@ -20,7 +20,8 @@ fn put_line(buf: &mut [u8], at: usize, answer: Answer) -> usize
     }
 }
 
-// Puts an answer's line from `at` on.
+// Puts an answer's line from `at` on, and answers the place after it; None where the longest
+// text has no room, and the buffer stays.
 pub fn put_answer(buf: &mut [u8], at: usize, answer: Answer) -> Option<usize>
     ensures { (result, buf.new) ≡ written buf.old at (answer_text answer) }
 {
@@ -78,7 +79,8 @@ fn put_lines(buf: &mut [u8], at: usize, clock: u32, cpc: u32, tick: Tick) -> usi
     put_told(buf, at, tick.report, b"r ", clock, b"\n")
 }
 
-// Puts a tick's lines from `at` on, none where it tells nothing.
+// Puts a tick's lines from `at` on, none where it tells nothing, and answers the place after them; None where the
+// longest text has no room, and the buffer stays.
 pub fn put_tick(buf: &mut [u8], at: usize, clock: u32, cpc: u32, tick: Tick) -> Option<usize>
     ensures { (result, buf.new) ≡ written buf.old at (tick_text clock cpc tick) }
 {

@@ -22,7 +22,6 @@ fn answer(inp: &[u8], line: Option<Span>, out: &mut Outlet<Stdout>) -> io::Resul
 
 // Reads and answers until the input ends. A proved loop has to end, and nothing says that the input does: the steps are
 // counted up to a number that no run reaches.
-// Stays: the loop is in each program; one for all is a public function over a trait, and its contract is longer.
 fn serve(from: &mut Stdin, inp: &mut [u8], out: &mut Outlet<Stdout>) -> io::Result<()> {
     let mut input = Input::new();
     for _ in 0..u64::MAX {
