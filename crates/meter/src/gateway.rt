@@ -7,6 +7,7 @@ use outlet::Outlet;
 use phase_lines::Phases;
 use printing::Answer;
 use script::Command;
+use state::State;
 use std::io;
 use std::io::Stdout;
 
@@ -31,20 +32,32 @@ fn put_tick(out: &mut Outlet<Stdout>, clock: u32, cpc: u32, tick: Tick) -> io::R
     out.put(|free| printing::put_tick(free, 0, clock, cpc, tick))
 }
 
+// The state after the quiet ticks that come first among n, on a line of this pulse length and spacing, and how many of
+// the n are left.
+fn quiet(mut state: State, pulse: u32, spacing: u32, n: u32) -> (State, u32) {
+    for done in 0..n {
+        if !state.is_quiet(pulse, spacing) {
+            return (state, n - done);
+        }
+        state = state.waited(spacing);
+    }
+    (state, 0)
+}
+
 // The line after n ticks; what each tick tells is put. The whole line is looked at only where a tick is busy.
 // Stays: the state beside the line; ticks on the field `line.state` itself took twice the time.
 fn run(line: Line, n: u32, out: &mut Outlet<Stdout>) -> io::Result<Line> {
-    let pulse = line.pulse;
-    let spacing = line.spacing;
     let mut state = line.state;
+    let mut left = n;
     for _ in 0..n {
-        if state.is_quiet(pulse, spacing) {
-            state = state.waited(spacing);
-        } else {
-            let busy = Line { state, ..line }.moved();
-            state = busy.state;
-            put_tick(out, state.clock, state.counters.cpc, busy.tick)?;
+        (state, left) = quiet(state, line.pulse, line.spacing, left);
+        if left == 0 {
+            break;
         }
+        let busy = Line { state, ..line }.moved();
+        state = busy.state;
+        left -= 1;
+        put_tick(out, state.clock, state.counters.cpc, busy.tick)?;
     }
     Ok(Line { state, ..line })
 }
