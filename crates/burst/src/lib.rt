@@ -6,7 +6,7 @@ ghost use Rattle.burst.specs.Bursts.{no_burst, start_of, is_running, held_more, 
 
 // The pulses owed, the least distance of its fronts, and the ticks since its last front, held at that distance. Where the
 // distance is 0 none runs.
-// Stays: an Option would give each line record a word more, and its ages are bare comparisons, with no case of none.
+// A burst that runs has a distance of the spacing at least, so that 0 says by itself that none runs.
 #[derive(Clone, Copy, PartialEq, Eq, Debug, Default)]
 pub struct Burst {
     pub owed: u32,

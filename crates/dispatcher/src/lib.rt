@@ -18,7 +18,7 @@ pub struct Waiting {
 
 // The length of the row, 0 before the first tick that was taken; the place after the last served; and what waits of
 // each place.
-// Stays: the length is a number, since no row of length 0 is taken, so that 0 says by itself that there is none yet.
+// No row of length 0 is taken, so that 0 says by itself that there was none yet.
 // Stays: the 64 places are an array, since the gateway has fixed memory.
 #[derive(Clone, Copy)]
 pub struct Dispatcher {

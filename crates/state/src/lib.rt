@@ -10,7 +10,7 @@ use burst::Burst;
 use tariff::Tariff;
 
 // The pulses applied, the pulses since the last report, and the report period, 0 for none.
-// Stays: a period of 0 is refused as a request, so 0 is free to say none, and `0 < rp && rp <= n` is all that reads it.
+// A period of 0 is refused as a request, so that 0 is free to say none.
 #[derive(Clone, Copy, PartialEq, Eq, Debug, Default)]
 pub struct Counters {
     pub cpc: u32,
