@@ -45,7 +45,7 @@ pub(crate) fn signal_slot(code: u64) -> usize
     }
 }
 
-// The slots of the items of em.
+// The slot of the item of em that has this code.
 fn em_item(code: u64) -> usize
     ensures { result ≡ slot_in em_items code }
 {
@@ -56,7 +56,7 @@ fn em_item(code: u64) -> usize
     }
 }
 
-// The slots of the items of mpb.
+// The slot of the item of mpb that has this code.
 fn mpb_item(code: u64) -> usize
     ensures { result ≡ slot_in mpb_items code }
 {
@@ -67,7 +67,7 @@ fn mpb_item(code: u64) -> usize
     }
 }
 
-// The slots of the items of phsm.
+// The slot of the item of phsm that has this code.
 fn phsm_item(code: u64) -> usize
     ensures { result ≡ slot_in phsm_items code }
 {

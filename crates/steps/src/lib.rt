@@ -57,7 +57,7 @@ fn slot_of(m: u32) -> Slot
 }
 
 impl Position {
-    // What is due where it stands.
+    // What is due where it stands. The length of a pulse, 0 here, makes no difference to a phased tariff.
     #[tactic(auto, unfolding(crate::specs::Steps::due_of))]
     fn due(self) -> Stepped
         ensures { result ≡ due_of 0 self.phases self.count (Phased self.phase self.entry self.left self.pulse) }
