@@ -14,7 +14,7 @@ reason why it stays.
   5 parameters of one name and type that stand together in four functions or more, and clauses in three or more
   6 arrays with a length beside them, and arrays that travel together
   7 chains of tests that choose a function to call
-  8 lemmas and definitions of proofs/ that nothing cites, and files of answers
+  8 lemmas of proofs/ that nothing cites and no page names, and files of answers
 """
 import collections
 import pathlib
@@ -146,17 +146,40 @@ def point_7():
                 yield path, line_of(text, at), f"fn {name}: {len(tests)} tests"
 
 
+WORD = r"[^\s(){}.;,@\"«»\[\]]+"
+HEAD = r"( *)(?:(?:abbrev|unfoldable|pub) )*(" + WORD + r")(?= |$)"
+
+
+def cited():
+    """How often each word stands in the crates, but for comments and imports."""
+    count = collections.Counter()
+    for kind in ("antt", "rt"):
+        for path in sorted(pathlib.Path("crates").glob(f"*/**/*.{kind}")):
+            if "/out/" not in str(path):
+                for line in path.read_text(encoding="utf-8").split("\n"):
+                    if not re.match(r" *(?:--|//|use )", line):
+                        count.update(re.findall(WORD, re.sub(r"--.*", "", line)))
+    return count
+
+
+def named():
+    """The words between backticks in README.md and docs/, but for the pages that list what was changed."""
+    pages = [pathlib.Path("README.md")] + sorted(pathlib.Path("docs").glob("**/*.md"))
+    text = "\n".join(p.read_text(encoding="utf-8") for p in pages if p.name not in ("DESIGN-PASS.md", "PORT.md"))
+    return {word for part in re.findall(r"`([^`]+)`", text) for word in re.findall(WORD, part)}
+
+
 def point_8():
-    everything = "\n".join(p.read_text(encoding="utf-8") for kind in ("antt", "rt", "edit")
-                           for p in sorted(pathlib.Path("crates").glob(f"*/**/*.{kind}")) if "/out/" not in str(p))
-    count = collections.Counter(re.findall(r"[^\s(){}.;,@\"«»]+", everything))
-    for path in sorted(pathlib.Path("crates").glob("*/proofs/*.antt")):
-        for i, line in enumerate(path.read_text(encoding="utf-8").split("\n")):
-            m = re.match(r"(?:(?:abbrev|unfoldable|pub|data|record) )*([^\s(){}.;,@\"«»:]+) :(?: |$)", line)
-            if m and not line.startswith("--"):
-                own = sum(1 for l in path.read_text(encoding="utf-8").split("\n") if l.split(" ")[0] == m.group(1))
-                if count[m.group(1)] <= own + 1:
-                    yield path, i + 1, f"lemma {m.group(1)}"
+    count, theorems = cited(), named()
+    for path in sorted(pathlib.Path("crates").glob("*/proofs/**/*.antt")):
+        if path.name in ("Answers.antt", "Invariants.antt"):
+            continue
+        lines = path.read_text(encoding="utf-8").split("\n")
+        heads = [m.groups() for m in (re.match(HEAD, line) for line in lines) if m]
+        for i, line in enumerate(lines):
+            m = re.match(HEAD + r" :(?: |$)", line)
+            if m and len(m.group(1)) <= 2 and count[m.group(2)] <= heads.count(m.groups()) and m.group(2) not in theorems:
+                yield path, i + 1, f"lemma {m.group(2)}"
     for path in sorted(pathlib.Path("crates").glob("*/proofs/**/Answers.antt")):
         yield path, 1, "answers"
 
