@@ -41,7 +41,7 @@ origin_wait S s = max 1 (S - s.since)
 
 -- ---- the counters
 
-abbrev pub zero_counters : ℕ → Counters
+abbrev pub zero_counters : Option ℕ → Counters
 zero_counters rp = record { cpc = 0; pcslr = 0; rp = rp }
 
 -- a front adds 1 to both counters, and may give a report
