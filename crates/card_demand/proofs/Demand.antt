@@ -11,10 +11,10 @@ use Rattle.demand.specs.Machine.{entries, history}
 use Rattle.demand.proofs.Demand.{demand3}
 use Rattle.demand.proofs.Tickets.{tickets}
 use Rattle.card_demand.specs.Card.{CardCall, CardEntry, Card, Making, card_past, card_history}
-use Rattle.card_demand.specs.Reading.{line_calls, line_history, row_ticks, row_in, next_in, reported, since, left, due}
+use Rattle.card_demand.specs.Reading.{line_calls, line_history, row_ticks, row_in, row_length, next_in, reported, since, left, due}
 use Rattle.card_demand.specs.Claims.{no_making, AllSound, HeardWithin, CardDemand}
 use Rattle.card_demand.proofs.Round.{passed-few}
-use Rattle.card_demand.proofs.Kept.{Kept, unheard, since-most}
+use Rattle.card_demand.proofs.Kept.{Kept, unheard, since-most, may-own}
 use Rattle.card_demand.proofs.Run.{Run, Replied, good, replied, cut, run-history}
 use Rattle.card_demand.proofs.Heard.{heard-run}
 
@@ -39,7 +39,7 @@ module _ (ms : List Making) (cs : List CardCall) where
   kept = (good ms (run-history ms cs)).kept
 
   module _ (rest before : List CardEntry) (e : CardEntry) (i : ℕ) (q : h ≡ rest ++ (e ∷ before)) (t : tells (due e before i) ≡ true) where
-    heard : row_in N (e ∷ before) ≤ row_ticks (rest ++ (e ∷ [])) → HeardWithin i (row_in N (e ∷ before)) (rest ++ (e ∷ []))
+    heard : row_length N (e ∷ before) ≤ row_ticks (rest ++ (e ∷ [])) → HeardWithin i (row_length N (e ∷ before)) (rest ++ (e ∷ []))
     heard = heard-run ms i e before rest (rw q at (run-history ms cs)) (run-part rest (e ∷ before) q).1 t
 
     -- the row has at most 64 lines
@@ -51,10 +51,10 @@ module _ (ms : List Making) (cs : List CardCall) where
 
   -- fewer wait than ticks can have passed over the line
   few : (i : ℕ) → (left h i).reports < 64
-  few i = by (dec_lt i (row_in N h))
+  few i = by (dec_lt i (row_length N h))
     where
-      by : Dec (i < row_in N h) → since reported h i < 64
-      by (yes l) = omega (arith, kept.few i, kept.fits, passed-few (row_in N h) (next_in N h) i (unheard h i) l (kept.passed (row_in N h) i (λ z. refl) l))
+      by : Dec (i < row_length N h) → since reported h i < 64
+      by (yes l) = omega (arith, kept.few i, kept.fits, passed-few (row_length N h) (next_in N h) i (unheard h i) l (kept.passed (row_length N h) i (may-own (row_in N h)) l))
       by (no l) = omega (arith, since-most reported h i, kept.outside reported refl i (omega arith))
 
 pub card_demand : (ms : List Making) → AllSound ms → (cs : List CardCall) → CardDemand ms cs

@@ -15,11 +15,11 @@ use Rattle.dispatcher.specs.declared.Waiting.{Waiting}
 use Rattle.std.specs.Prelude.{Some, None}
 use Rattle.demand.specs.Calls.{Entry}
 use Rattle.card_demand.specs.Card.{CardCall, CardReply, done, sends, refuses, CardEntry, card_entry, Card, Making}
-use Rattle.card_demand.specs.Reading.{is_tick, one_if, number, row_ticks, row_in, next_in, tariff_done, burst_done, reported, fell, fallen, since, left, due}
+use Rattle.card_demand.specs.Reading.{is_tick, one_if, number, row_ticks, row_length, next_in, tariff_done, burst_done, reported, fell, fallen, since, left, due}
 use Rattle.card_demand.specs.Claims.{HeardWithin}
 use Rattle.card_demand.proofs.Round.{passed-few}
 use Rattle.card_demand.proofs.Gather.{one-least, one-most, one_up, tells_more}
-use Rattle.card_demand.proofs.Kept.{unheard, since-most, row_stays}
+use Rattle.card_demand.proofs.Kept.{unheard, since-most, may-stay}
 use Rattle.card_demand.proofs.Run.{Run, more, good}
 
 -- where the line at place i has something to tell, an entry has its notice, or passes it over
@@ -51,7 +51,7 @@ module _ (ms : List Making) (i : ℕ) (e₀ : CardEntry) (before : List CardEntr
 
   -- the row has n lines
   abbrev n : ℕ
-  n = row_in N (e₀ ∷ before)
+  n = row_length N (e₀ ∷ before)
 
   -- something fell only on a line of the row
   none-due : {k : Card} → Run ms (e₀ ∷ before) k → n ≤ i → (f : Tick → Bool) → f silent ≡ false → one_if (fell f e₀ i) (since f before i) ≡ 0
@@ -75,7 +75,7 @@ module _ (ms : List Making) (i : ℕ) (e₀ : CardEntry) (before : List CardEntr
     few : {k : Card} (rest : List CardEntry) → Run ms (rest ++ (e₀ ∷ before)) k → unheard (rest ++ (e₀ ∷ before)) i < n
     few rest r =
         let h = rest ++ (e₀ ∷ before) in
-        passed-few n (next_in N h) i (unheard h i) l ((good ms r).kept.passed n i (λ z. row_stays N rest (e₀ ∷ before) (omega arith)) l)
+        passed-few n (next_in N h) i (unheard h i) l ((good ms r).kept.passed n i (may-stay N rest (e₀ ∷ before) (omega arith)) l)
 
     data Until (rest : List CardEntry) : Type 0 where
       heard_in : HeardWithin i n (rest ++ (e₀ ∷ [])) → Until rest

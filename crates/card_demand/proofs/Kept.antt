@@ -10,14 +10,15 @@ use lib.Dec.{ltb, eqb}
 use lib.ListN.{length, get_or, length-set, get_or-map}
 use Rattle.answers.specs.Fronts.{silent}
 use Rattle.answers.specs.declared.Tick.{Tick}
-use Rattle.dispatcher.specs.Dispatch.{nothing, notice, tells, gather_all, waits_in, place_after, turn_of, fresh_dispatcher, wrong_row, sent_of, served_by, sent_by, after_tick}
+use Rattle.dispatcher.specs.Dispatch.{nothing, notice, tells, gather_all, waits_in, place_after, turn_of, fresh_dispatcher, other_row, wrong_row, sent_of, served_by, sent_by, after_tick}
 use Rattle.dispatcher.specs.declared.Waiting.{Waiting}
 use Rattle.dispatcher.specs.declared.Dispatcher.{Dispatcher}
 use Rattle.dispatcher.specs.declared.Notice.{Notice}
 use Rattle.std.specs.Prelude.{Option, Some, None}
+use Rattle.std.specs.Option.{option_or, unwrap_or}
 use Rattle.demand.specs.Calls.{Entry}
 use Rattle.card_demand.specs.Card.{CardCall, tick_row, done, sends, refuses, CardEntry, card_entry, told_in}
-use Rattle.card_demand.specs.Reading.{is_tick, one_if, number, lent, row_in, next_in, reported, fell, fallen, serves, since, sent_reports, left, due}
+use Rattle.card_demand.specs.Reading.{is_tick, one_if, number, lent, row_in, row_length, next_in, reported, fell, fallen, serves, since, sent_reports, left, due}
 use Rattle.card_demand.proofs.Round.{Round, nobody, turn-of, Foremost, going_round_lem, Passed, nearer, passed-few, passed-zero, after-inside}
 use Rattle.card_demand.proofs.Gather.{gather-length, gather-at, cleared_at, fresh_at, one-most, one_up, one-sum, gathered-telling, few-step}
 
@@ -37,49 +38,59 @@ since-most f (e ∷ h) i = by (serves e i) (fell f e i) (since-most f h i)
     by false x l = one_up x (since f h i) (fallen f h i) l
 
 -- a row of n is that of the history, or the history has none
-abbrev pub May : ℕ → ℕ → Type 0
-May row n = 0 < row → row ≡ n
+abbrev pub May : Option ℕ → ℕ → Type 0
+May None n = Unit {0}
+May (Some k) n = k ≡ n
+
+pub may-own : (row : Option ℕ) → May row (unwrap_or row 0)
+may-own None = tt
+may-own (Some k) = refl
 
 -- ---- an accepted row
-pub record Row (row n : ℕ) : Type 0 where
+pub record Row (row : Option ℕ) (n : ℕ) : Type 0 where
   pub some-line : 0 < n
   pub most : n ≤ 64
   pub may : May row n
 
-pub accepted-row : (row n : ℕ) → wrong_row row n ≡ false → Row row n
-accepted-row row n h = by (eqb n 0) (ltb 64 n) (ltb 0 row) (eqb n row) refl refl refl refl h
+same-row : (row : Option ℕ) (n : ℕ) → other_row row n ≡ false → May row n
+same-row None n h = tt
+same-row (Some k) n h = by (eqb n k) refl h
   where
-    by : (p q r s : Bool) → eqb n 0 ≡ p → ltb 64 n ≡ q → ltb 0 row ≡ r → eqb n row ≡ s → ((p || q) || (r && not s)) ≡ false → Row row n
-    by true q r s e f g k h = absurd (true≢false h)
-    by false true r s e f g k h = absurd (true≢false h)
-    by false false true false e f g k h = absurd (true≢false h)
-    by false false true true e f g k h =
+    by : (b : Bool) → eqb n k ≡ b → not b ≡ false → k ≡ n
+    by true e h = sym (eqb-true n k e)
+    by false e h = absurd (true≢false h)
+
+pub accepted-row : (row : Option ℕ) (n : ℕ) → wrong_row row n ≡ false → Row row n
+accepted-row row n h = by (eqb n 0) (ltb 64 n) (other_row row n) refl refl refl h
+  where
+    by : (p q r : Bool) → eqb n 0 ≡ p → ltb 64 n ≡ q → other_row row n ≡ r → ((p || q) || r) ≡ false → Row row n
+    by true q r e f g h = absurd (true≢false h)
+    by false true r e f g h = absurd (true≢false h)
+    by false false true e f g h = absurd (true≢false h)
+    by false false false e f g h =
         let z = eqb-false n 0 e in
-        record { some-line = omega arith; most = ltb-false 64 n f; may = λ l. sym (eqb-true n row k) }
-    by false false false s e f g k h =
-        let z = eqb-false n 0 e in
-        let o = ltb-false 0 row g in
-        record { some-line = omega arith; most = ltb-false 64 n f; may = λ l. absurd (omega arith) }
+        record { some-line = omega arith; most = ltb-false 64 n f; may = same-row row n g }
 
 -- the first row stays
-pub row_stays : (N : ℕ) (after h : List CardEntry) → 0 < row_in N h → row_in N (after ++ h) ≡ row_in N h
+row_stays : (N k : ℕ) (after h : List CardEntry) → row_in N h ≡ Some k → row_in N (after ++ h) ≡ Some k
 unfolding row_in
-row_stays N [] h l = refl
-row_stays N (e ∷ after) h l =
-    let q = row_stays N after h l in by (is_tick e) (eqb (row_in N (after ++ h)) 0) refl q
+row_stays N k [] h q = q
+row_stays N k (e ∷ after) h q = by (is_tick e) (row_stays N k after h q)
   where
-    by : (t b : Bool) → eqb (row_in N (after ++ h)) 0 ≡ b → row_in N (after ++ h) ≡ row_in N h →
-        cond (t && b) (lent N e.call) (row_in N (after ++ h)) ≡ row_in N h
-    by true true x q = absurd (omega (arith, eqb-true (row_in N (after ++ h)) 0 x))
-    by true false x q = q
-    by false b x q = q
+    by : (t : Bool) → row_in N (after ++ h) ≡ Some k → cond t (option_or (row_in N (after ++ h)) (Some (lent N e.call))) (row_in N (after ++ h)) ≡ Some k
+    by true q = rw q
+    by false q = q
 
-row_now : (row n : ℕ) → May row n → cond (eqb row 0) n row ≡ n
-row_now row n may = by (eqb row 0) refl
+pub may-stay : (N : ℕ) (after h : List CardEntry) → 0 < row_length N h → May (row_in N (after ++ h)) (row_length N h)
+may-stay N after h l = by (row_in N h) refl l
   where
-    by : (b : Bool) → eqb row 0 ≡ b → cond b n row ≡ n
-    by true e = refl
-    by false e = let z = eqb-false row 0 e in may (omega arith)
+    by : (r : Option ℕ) → row_in N h ≡ r → 0 < unwrap_or r 0 → May (row_in N (after ++ h)) (unwrap_or r 0)
+    by None e l = absurd (omega arith)
+    by (Some k) e l = rw (row_stays N k after h e) refl
+
+row_now : (row : Option ℕ) (n : ℕ) → May row n → option_or row (Some n) ≡ Some n
+row_now None n may = refl
+row_now (Some k) n may = ap (λ (x : ℕ). Some x) may
 
 -- on a card of N lines
 module _ (N : ℕ) where
@@ -89,9 +100,9 @@ module _ (N : ℕ) where
     pub places : length d.waiting ≡ 64
     pub waits : (i : ℕ) → waits_in d.waiting i ≡ left h i
     pub few : (i : ℕ) → since reported h i ≤ unheard h i
-    pub fits : row_in N h ≤ 64
+    pub fits : row_length N h ≤ 64
     pub passed : (n i : ℕ) → May (row_in N h) n → i < n → Passed n (next_in N h) i (unheard h i)
-    pub outside : (f : Tick → Bool) → f silent ≡ false → (i : ℕ) → row_in N h ≤ i → fallen f h i ≡ 0
+    pub outside : (f : Tick → Bool) → f silent ≡ false → (i : ℕ) → row_length N h ≤ i → fallen f h i ≡ 0
     pub sum : (i : ℕ) → fallen reported h i ≡ sent_reports h i + since reported h i
 
   -- ---- a fresh dispatcher, and a call that is no tick of it
@@ -155,9 +166,12 @@ module _ (N : ℕ) where
     abbrev w : ℕ → Waiting
     w = due (e None) h
 
-    row_is : (s : Option Notice) → row_in N (e s ∷ h) ≡ n
+    row_is : (s : Option Notice) → row_in N (e s ∷ h) ≡ Some n
     unfolding row_in
     row_is s = row_now (row_in N h) n ok.may
+
+    length_is : (s : Option Notice) → row_length N (e s ∷ h) ≡ n
+    length_is s = ap (λ (r : Option ℕ). unwrap_or r 0) (row_is s)
 
     told_at_lem : (i : ℕ) → get_or (map told_in rows) i silent ≡ told_in (get_or rows i [])
     told_at_lem i = get_or-map told_in rows i []
@@ -178,13 +192,13 @@ module _ (N : ℕ) where
     few-due : (i : ℕ) → (w i).reports ≤ unheard h i + 1
     few-due i = omega (arith, k.few i, one-most (told_in (get_or rows i [])).report (since reported h i))
 
-    none-outside : (s : Option Notice) (f : Tick → Bool) → f silent ≡ false → (i : ℕ) → row_in N (e s ∷ h) ≤ i → fallen f (e s ∷ h) i ≡ 0
+    none-outside : (s : Option Notice) (f : Tick → Bool) → f silent ≡ false → (i : ℕ) → row_length N (e s ∷ h) ≤ i → fallen f (e s ∷ h) i ≡ 0
     unfolding number
-    none-outside s f q i l = rw (out i (omega (arith, row_is s)), q) (k.outside f q i (before (row_in N h) refl))
+    none-outside s f q i l = rw (out i (omega (arith, length_is s)), q) (k.outside f q i (before (row_in N h) ok.may))
       where
-        before : (r : ℕ) → row_in N h ≡ r → row_in N h ≤ i
-        before zero x = omega arith
-        before (suc r) x = omega (arith, ok.may (omega arith), row_is s)
+        before : (r : Option ℕ) → May r n → unwrap_or r 0 ≤ i
+        before None may = omega arith
+        before (Some r) may = let same : r ≡ n = may in omega (arith, length_is s)
 
     -- nothing sent
     kept-quiet : ((i : ℕ) → i < n → tells (w i) ≡ false) → Kept (e None ∷ h) (served_by n d.next ws None)
@@ -195,10 +209,9 @@ module _ (N : ℕ) where
       places = gather-length d.waiting (map told_in rows) ∙ k.places;
       waits = waits-due;
       few = λ i. few-step (w i) (tells (w i)) refl (unheard h i) (few-due i);
-      fits = omega (arith, row_is None, ok.most);
+      fits = omega (arith, length_is None, ok.most);
       passed = λ n' i may l.
-          let q = may (omega (arith, row_is None, ok.some-line)) in
-          let same : n ≡ n' = sym (row_is None) ∙ q in
+          let same : n ≡ n' = subst (λ (r : Option ℕ). May r n') (row_is None) may in
           rw (no_one i (omega arith)) (passed-zero n' (next_in N h) i (rw (← same) (k.passed n i ok.may (omega arith)).next) l);
       outside = none-outside None;
       sum = λ i. one-sum (fell reported (e None) i) (fallen reported h i) (sent_reports h i) (since reported h i) (k.sum i);
@@ -243,7 +256,7 @@ module _ (N : ℕ) where
 
       next-is : next_in N (x ∷ h) ≡ place_after n j
       unfolding next_in
-      next-is = ap (λ (r : ℕ). place_after r j) (row_is (Some (notice j (w j))))
+      next-is = ap (λ (r : ℕ). place_after r j) (length_is (Some (notice j (w j))))
 
       kept-notice : Kept (x ∷ h) (served_by n d.next ws (Some j))
       unfolding unheard since number sent_reports
@@ -256,10 +269,9 @@ module _ (N : ℕ) where
             ∙ ap (λ (v : Waiting). cond (eqb i j) nothing v) (waits-due i)
             ∙ sym (left_is i (eqb i j) refl);
         few = λ i. few-step (left (x ∷ h) i) (tells (left (x ∷ h) i)) refl (unheard h i) (of_left i (λ v. v.reports ≤ unheard h i + 1) (few-left i (eqb i j)));
-        fits = omega (arith, row_is (Some (notice j (w j))), ok.most);
+        fits = omega (arith, length_is (Some (notice j (w j))), ok.most);
         passed = λ n' i may l.
-            let q = may (omega (arith, row_is (Some (notice j (w j))), ok.some-line)) in
-            let same : n ≡ n' = sym (row_is (Some (notice j (w j)))) ∙ q in
+            let same : n ≡ n' = subst (λ (r : Option ℕ). May r n') (row_is (Some (notice j (w j)))) may in
             subst (λ (y : ℕ). Passed y (next_in N (x ∷ h)) i (count i (left (x ∷ h) i))) same
             (subst (λ (a : ℕ). Passed n a i (count i (left (x ∷ h) i))) (sym next-is)
             (of_left i (λ v. Passed n (place_after n j) i (count i v)) (nearer-at i (omega arith) (eqb i j) refl (tells (w i)) refl)));

@@ -1,6 +1,6 @@
 -- R-4 to R-6: one claim about the history of every list of calls on a card of fresh lines with a fresh dispatcher.
 use Rattle.std.specs.Prelude.{◌≡◌, true, false, cond, List, [], ◌∷◌, ◌++◌, ℕ, ◌+◌, ◌^◌, min, ◌≤◌, ◌<◌, length, get_or}
-use Rattle.std.specs.Prelude.{Some}
+use Rattle.std.specs.Prelude.{Option, Some}
 use Rattle.descriptor.specs.Refusals.{sound_configuration}
 use Rattle.dispatcher.specs.Dispatch.{tells, notice, bad_row, wrong_row, sent_of, turn_of, waits_in}
 use Rattle.dispatcher.specs.declared.Waiting.{Waiting}
@@ -12,7 +12,7 @@ use Rattle.demand.specs.Demand.{Demand3}
 use Rattle.demand.specs.Tickets.{Tickets}
 use Rattle.card_demand.specs.Card.{CardCall, tick_row, group, CardReply, done, sends, refuses, CardEntry}
 use Rattle.card_demand.specs.Card.{rate, Making, card_past, card_history}
-use Rattle.card_demand.specs.Reading.{line_calls, line_history, row_ticks, row_in, next_in, reported, fallen}
+use Rattle.card_demand.specs.Reading.{line_calls, line_history, row_ticks, row_in, row_length, next_in, reported, fallen}
 use Rattle.card_demand.specs.Reading.{sent_reports, left, due}
 
 -- stands where the card has no line
@@ -82,9 +82,13 @@ module _ (ms : List Making) (cs : List CardCall) where
   abbrev making : ℕ → Making
   making i = get_or ms i no_making
 
-  -- after a part of the history: the length of the row, and the place after the last served
-  abbrev row : List CardEntry → ℕ
+  -- after a part of the history: the length of the row, if there was one, the number of its lines, and the place after
+  -- the last served
+  abbrev row : List CardEntry → Option ℕ
   row part = row_in (length ms) part
+
+  abbrev size : List CardEntry → ℕ
+  size part = row_length (length ms) part
 
   abbrev next : List CardEntry → ℕ
   next part = next_in (length ms) part
@@ -110,13 +114,13 @@ module _ (ms : List Making) (cs : List CardCall) where
     -- a line with something to tell is heard within as many ticks of the dispatcher as the row has lines, if so many
     -- follow; the tick in which it fell counts as one of them
     pub heard : (rest before : List CardEntry) (e : CardEntry) (i : ℕ) → h ≡ rest ++ (e ∷ before) →
-        tells (due e before i) ≡ true → row (e ∷ before) ≤ row_ticks (rest ++ (e ∷ [])) →
-        HeardWithin i (row (e ∷ before)) (rest ++ (e ∷ []))
+        tells (due e before i) ≡ true → size (e ∷ before) ≤ row_ticks (rest ++ (e ∷ [])) →
+        HeardWithin i (size (e ∷ before)) (rest ++ (e ∷ []))
     -- a rate command for a group is one entry, so that all of its lines or none take it in the same tick gap
     pub group : (after before : List CardEntry) (e : CardEntry) (m : ℕ) (ps : List ℕ) (P : ℕ) →
         h ≡ after ++ (e ∷ before) → e.call ≡ group m ps P → GroupDemand ms before e (min m (length ms)) ps P
     -- a row has at most 64 lines
-    pub fits : row h ≤ 64
+    pub fits : size h ≤ 64
     -- and so it is heard within 64 ticks, if so many follow
     pub heard_in_64 : (rest before : List CardEntry) (e : CardEntry) (i : ℕ) → h ≡ rest ++ (e ∷ before) →
         tells (due e before i) ≡ true → 64 ≤ row_ticks (rest ++ (e ∷ [])) → HeardWithin i 64 (rest ++ (e ∷ []))

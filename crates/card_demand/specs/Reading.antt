@@ -1,6 +1,7 @@
 -- What a card's history says of each line: read from its calls, its replies and the lines' entries alone.
 use Rattle.std.specs.Prelude.{Bool, true, false, cond, ◌&&◌, List, [], ◌∷◌, ◌++◌, ℕ, ◌+◌, min, ltb, eqb, get_or}
-use Rattle.std.specs.Prelude.{Option, Some, None}
+use Rattle.std.specs.Prelude.{if◌then◌else◌, Option, Some, None}
+use Rattle.std.specs.Option.{option_or, unwrap_or}
 use Rattle.answers.specs.declared.Tick.{Tick}
 use Rattle.dispatcher.specs.Dispatch.{place_after}
 use Rattle.dispatcher.specs.declared.Waiting.{Waiting}
@@ -53,15 +54,19 @@ module _ (N : ℕ) where
   lent (tick_row m) = min m N
   lent (group m ps P) = min m N
 
-  -- the length of the row at the first tick that was taken, 0 before it
-  unfoldable pub row_in : List CardEntry → ℕ
-  row_in [] = 0
-  row_in (e ∷ h) = cond (is_tick e && eqb (row_in h) 0) (lent e.call) (row_in h)
+  -- the length of the row at the first tick that was taken, if there was one
+  unfoldable pub row_in : List CardEntry → Option ℕ
+  row_in [] = None
+  row_in (e ∷ h) = if is_tick e then option_or (row_in h) (Some (lent e.call)) else row_in h
+
+  -- how many lines the row has: none before that tick
+  abbrev pub row_length : List CardEntry → ℕ
+  row_length h = unwrap_or (row_in h) 0
 
   -- the place after the last served, at first place 0
   unfoldable pub next_in : List CardEntry → ℕ
   next_in [] = 0
-  next_in (e ∷ h) = elim (sent_in e) [ None ↦ next_in h | Some n ↦ place_after (row_in (e ∷ h)) n.place ]
+  next_in (e ∷ h) = elim (sent_in e) [ None ↦ next_in h | Some n ↦ place_after (row_length (e ∷ h)) n.place ]
 
 -- ---- what fell on the line at place i in ticks of the dispatcher: f picks a completion or the report
 

@@ -1,5 +1,5 @@
 -- The line of a refused configuration begins no pulse in its first 4,294,967,294 ticks, whatever it is told.
-use Rattle.std.specs.Prelude.{None, Option}
+use Rattle.std.specs.Prelude.{None, Some, Option}
 use mathlib.Core.Path.{◌≡◌, refl}
 use mathlib.Core.Bool.{Bool, true, false, not, and-eq-true_iff, and-false}
 use mathlib.Core.List.{List, [], ◌∷◌}
@@ -119,10 +119,10 @@ module _ (h : List Entry) (l : Line) (x : QuietPast (past h l)) where
       let free = (none_after (tariff_causes l.spacing endless running t ls) (burst_causes l.spacing endless running p) own).0 in
       (with-serial (ticks h) _ (burst-quiet (ticks h) p (tariff_changed t (length (phases_of ls)) (eight_of (phases_of ls)) l) (tariff-quiet (ticks h) endless running t ls l free (x early).0)), omega (arith, (x early).1))
 
-  ruled : (n : ℕ) (u : Ruling) → QuietPast (noted h (period n) (answered (answered_by u l (with_period l n) 0)))
+  ruled : (n : ℕ) (rp : Option ℕ) (u : Ruling) → QuietPast (noted h (period n) (answered (answered_by u l (with_period l rp) 0)))
   unfolding ticks sum
-  ruled n (Err r) = λ early. ((x early).0, omega (arith, (x early).1))
-  ruled n (Ok tt) = λ early.
+  ruled n rp (Err r) = λ early. ((x early).0, omega (arith, (x early).1))
+  ruled n rp (Ok tt) = λ early.
       let y = (x early).0 in
       (record { spacing = y.spacing; tariff = y.tariff; wait = y.wait; since = y.since }, omega (arith, (x early).1))
 
@@ -132,8 +132,8 @@ module _ (h : List Entry) (l : Line) (x : QuietPast (past h l)) where
   call-quiet (ask d) = λ early. ((x early).0, omega (arith, (x early).1))
   call-quiet (hook KeepHook) = λ early. (with-serial (ticks h) l (x early).0, omega (arith, (x early).1))
   call-quiet (hook Stop) = λ early. (record { spacing = (x early).0.spacing; tariff = refl; wait = refl; since = (x early).0.since }, omega (arith, (x early).1))
-  call-quiet (period n) = ruled n (ruling_of l (period n))
-  call-quiet no_period = ruled 0 (Ok tt)
+  call-quiet (period n) = ruled n (Some n) (ruling_of l (period n))
+  call-quiet no_period = ruled 0 None (Ok tt)
   call-quiet audit = λ early. ((x early).0, omega (arith, (x early).1))
   call-quiet tick = λ early.
       let y = x (omega arith) in

@@ -126,9 +126,9 @@ described k (descriptor t ls p) l (Ok tt) e x =
     let free = none_after (tariff_causes l.spacing endless running t ls) (burst_causes l.spacing endless running p) own in
     accepted-bounded _ (burst-bounded p (tariff_changed t (length (phases_of ls)) (eight_of (phases_of ls)) l) (allows l.spacing endless running p free.1) (tariff-bounded t (phases_of ls) l x))
 
-ruled : (n : ℕ) (l : Line) (u : Ruling) → Bounded l → OutcomeBounded (answered (answered_by u l (with_period l n) 0))
-ruled n l (Ok tt) x =
-    accepted-bounded (with_period l n)
+ruled : (rp : Option ℕ) (l : Line) (u : Ruling) → Bounded l → OutcomeBounded (answered (answered_by u l (with_period l rp) 0))
+ruled rp l (Ok tt) x =
+    accepted-bounded (with_period l rp)
     (record {
       spacing = x.spacing;
       serial = x.serial;
@@ -140,7 +140,7 @@ ruled n l (Ok tt) x =
             counters = record { cpc = x.state.counters.cpc; pcslr = x.state.counters.pcslr };
           };
     })
-ruled n l (Err r) x = x
+ruled rp l (Err r) x = x
 
 -- ---- a tick
 aged-bounded : (D : ℕ) (b : Burst) → BurstBounded b → BurstBounded (aged_of D b).burst
@@ -198,8 +198,8 @@ step-bounded l x (describe k d) = rw (describe-step l k d) (described k d l (rul
 step-bounded l x (ask d) = x
 step-bounded l x (hook Keep) = accepted-bounded l x
 step-bounded l x (hook Stop) = accepted-bounded _ (record { spacing = x.spacing; serial = x.serial; state = record { clock = x.state.clock; since = x.state.since; burst = no-burst; counters = x.state.counters } })
-step-bounded l x (period n) = ruled n l (ruling_of l (period n)) x
-step-bounded l x no_period = ruled 0 l (Ok tt) x
+step-bounded l x (period n) = ruled (Some n) l (ruling_of l (period n)) x
+step-bounded l x no_period = ruled None l (Ok tt) x
 step-bounded l x audit = x
 step-bounded l x tick = tick-bounded l x
 

@@ -1,5 +1,5 @@
 -- A change of the tariff, of the burst or of the report period keeps the coupling.
-use Rattle.std.specs.Prelude.{None}
+use Rattle.std.specs.Prelude.{Option, None}
 use mathlib.Core.Path.{◌≡◌, refl, sym, ◌∙◌}
 use mathlib.Core.Bool.{Bool, true, false}
 use mathlib.Core.List.{List}
@@ -44,7 +44,7 @@ module _ (D S clock : ℕ) (cfg : Config D S) where
   wait-fits : (w : ℕ) → Waits (max 1 (S - w))
   wait-fits w = record { some = omega arith; most = omega arith }
 
-  pub tariff-at : {i : ℕ} {last : Last} {b : Started} {r : Running} {cpc pcslr rp : ℕ} {l : Line} (t : TariffPart) (ps : List Phase) → TariffTaken S t ps r → At D S clock i last b r cpc pcslr rp l →
+  pub tariff-at : {i : ℕ} {last : Last} {b : Started} {r : Running} {cpc pcslr : ℕ} {rp : Option ℕ} {l : Line} (t : TariffPart) (ps : List Phase) → TariffTaken S t ps r → At D S clock i last b r cpc pcslr rp l →
       At D S clock i last b (changed_by t ps (origin_after S last i) i r) (zeroed_by t cpc) (zeroed_by t pcslr) rp (tariff_changed t (length ps) (eight_of ps) l)
   unfolding tariff_changed
   tariff-at {i} NoTariff ps h (line_at {ps = qs} {n = n} e before a g u x) = line_at e before (agree-idle D qs n 0 i) tt u (λ z. absurd (z refl))
@@ -62,12 +62,12 @@ module _ (D S clock : ℕ) (cfg : Config D S) where
       u
       (rw (next-phased (eight_of ps) w) (λ z. omega arith))
 
-  pub burst-at : {i : ℕ} {last : Last} {b : Started} {r : Running} {cpc pcslr rp : ℕ} {l : Line} (running : Bool) (p : BurstPart) → BurstTaken running p → At D S clock i last b r cpc pcslr rp l →
+  pub burst-at : {i : ℕ} {last : Last} {b : Started} {r : Running} {cpc pcslr : ℕ} {rp : Option ℕ} {l : Line} (running : Bool) (p : BurstPart) → BurstTaken running p → At D S clock i last b r cpc pcslr rp l →
       At D S clock i last (burst_by p None (i + 1) b) r cpc pcslr rp (burst_changed p l)
   unfolding burst_changed
   burst-at running NoBurst h (line_at e before a g u x) = line_at e before a g none x
   burst-at running KeepBurst h (line_at e before a g u x) = line_at e before a g u x
   burst-at running (Start n P) h (line_at e before a g u x) = line_at e before a g (runs {n = n} {P = P} {k = 0} {m = n} (omega arith) refl tt (λ z. absurd (omega arith))) x
 
-  pub period-at : {i : ℕ} {last : Last} {b : Started} {r : Running} {cpc pcslr rp : ℕ} {l : Line} (n : ℕ) → At D S clock i last b r cpc pcslr rp l → At D S clock i last b r cpc pcslr n (with_period l n)
+  pub period-at : {i : ℕ} {last : Last} {b : Started} {r : Running} {cpc pcslr : ℕ} {rp : Option ℕ} {l : Line} (n : Option ℕ) → At D S clock i last b r cpc pcslr rp l → At D S clock i last b r cpc pcslr n (with_period l n)
   period-at n (line_at e before a g u x) = line_at e before a g u x

@@ -166,7 +166,7 @@ module _ (l : Line) (cfg : Config l.pulse l.spacing) (good : Good l.spacing l.ph
   changed k' (descriptor (Em C P) ls KeepBurst) (Ok tt) e = begins refl refl refl refl owing
   changed k' (descriptor Phased ls KeepBurst) (Ok tt) e = begins refl refl refl refl owing
 
-  ruled : (n : ℕ) (u : Ruling) → EffectOf (period n) (answered (answered_by u l (with_period l n) 0))
+  ruled : (n : ℕ) (u : Ruling) → EffectOf (period n) (answered (answered_by u l (with_period l (Some n)) 0))
   ruled n (Ok tt) = stays refl refl refl refl owing
   ruled n (Err r) = stays refl refl refl refl owing
 

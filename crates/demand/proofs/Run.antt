@@ -10,7 +10,7 @@ use Rattle.phase_lists.specs.Lists.{phases_of}
 use Rattle.phase_lists.specs.Tables.{no_phases}
 use Rattle.descriptor.specs.Refusals.{ruling}
 use Rattle.descriptor.specs.Names.{Ruling}
-use Rattle.std.specs.Prelude.{Ok, Err, Some, Option}
+use Rattle.std.specs.Prelude.{Ok, Err, None, Some, Option}
 use Rattle.descriptor.specs.declared.TariffPart.TheVariants.{None as NoTariff}
 use Rattle.descriptor.specs.declared.BurstPart.TheVariants.{None as NoBurst}
 use Rattle.descriptor.specs.declared.Hook.TheVariants.{Keep, Stop}
@@ -82,9 +82,9 @@ module _ (D S clock : ℕ) (cfg : Config D S) where
     unfolding answer_after
     ask-right d n e p = rw (p, e)
 
-    period-right : (n : ℕ) (u : Ruling) → ruling_after D S h (period n) ≡ u → Right h (period n) (answered (answered_by u l (with_period l n) 0))
+    period-right : (n : ℕ) (u : Ruling) → ruling_after D S h (period n) ≡ u → Right h (period n) (answered (answered_by u l (with_period l (Some n)) 0))
     unfolding answer_after ticks last_front burst_in running fronts_since_em since_report period_in
-    period-right n (Ok tt) e = (ruled D S h (period n) e, serial-at D S clock _ (period-at D S clock cfg n x))
+    period-right n (Ok tt) e = (ruled D S h (period n) e, serial-at D S clock _ (period-at D S clock cfg (Some n) x))
     period-right n (Err r) e = (ruled D S h (period n) e, x)
 
     pub step_right : (c : Call) → Right h c (step l c)
@@ -94,7 +94,7 @@ module _ (D S clock : ℕ) (cfg : Config D S) where
     step_right (hook Keep) = (refl, serial-at D S clock _ x)
     step_right (hook Stop) = (ap accepted (owed-agrees h x), serial-at D S clock _ (burst-at D S clock cfg true NoBurst tt (tariff-at D S clock cfg NoTariff [] tt x)))
     step_right (period n) = rw (rulings_agree h x s (period n)) (period-right n (ruling_after D S h (period n)) refl)
-    step_right no_period = (refl, serial-at D S clock _ (period-at D S clock cfg 0 x))
+    step_right no_period = (refl, serial-at D S clock _ (period-at D S clock cfg None x))
     step_right audit = (counters-agree h x, x)
     step_right tick = let k = tick-at D S clock cfg x in (ap ticked k.0, with-total D S clock (counted-held (tick_of l).tick.front (fronts_since_em h)) k.1)
 
@@ -110,7 +110,7 @@ module _ (D S clock : ℕ) (cfg : Config D S) where
 
   -- a fresh line, whose clock fits 32 bits
   fresh_at : (k : ℕ) → k ≡ (clock + 0) % 2 ^ 32 →
-      At D S clock 0 never idle nothing 0 0 0 (idle_line D S k S)
+      At D S clock 0 never idle nothing 0 0 None (idle_line D S k S)
   fresh_at k e = rw e (line_at {v = S} {w = 0} {t = Idle} {ps = no_phases} {n = 0} refl tt (agree-idle D no_phases 0 0 0) tt none (λ z. absurd (z refl)))
 
   right_of : (h : List Entry) (c : Call) {a : Answer} {l' : Line} (o : Outcome) → o ≡ outcome a l' → Right h c o → Right h c (outcome a l')

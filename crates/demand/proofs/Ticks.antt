@@ -40,7 +40,7 @@ use Rattle.demand.proofs.Coupled.{Config, Apart, BurstAt, At, line_at}
 use Rattle.demand.proofs.Bursts.{burst-aged, burst-ready, burst-begun}
 
 -- the counters after a front, without a branch
-count-is : (cpc pcslr rp : ℕ) → count_of (record { cpc = cpc; pcslr = pcslr; rp = rp }) ≡
+count-is : (cpc pcslr : ℕ) (rp : Option ℕ) → count_of (record { cpc = cpc; pcslr = pcslr; rp = rp }) ≡
     record { counters = record { cpc = one_more cpc; pcslr = cond (report_due rp (one_more pcslr)) 0 (one_more pcslr); rp = rp }; report = report_due rp (one_more pcslr) }
 unfolding count_of
 count-is cpc pcslr rp = by (report_due rp (one_more pcslr))
@@ -62,18 +62,18 @@ room_says S v h z = by (eqb v 0) refl
 
 module _ (D S clock : ℕ) (cfg : Config D S) where
   -- what a tick after i others tells, by what the history says before it
-  abbrev pub tick_told : ℕ → Last → Started → Running → ℕ → ℕ → Option Front → Tick
+  abbrev pub tick_told : ℕ → Last → Started → Running → ℕ → Option ℕ → Option Front → Tick
   tick_told i last b r pcslr rp f =
       record { tariff = completes_at D r (i + 1); burst = burst_completes D b (i + 1); front = f; report = if_front f (report_due rp (one_more pcslr)) false }
 
   abbrev pub front_due : ℕ → Last → Started → Running → Option Front
   front_due i last b r = front_at (slot_at r (i + 1)) (burst_ready S b (i + 1) && (passed S last (i + 1) && quiet_for r (i + 1) (S - 1)))
 
-  abbrev pub After : ℕ → Last → Started → Running → ℕ → ℕ → ℕ → Tick → Line → Type 0
+  abbrev pub After : ℕ → Last → Started → Running → ℕ → ℕ → Option ℕ → Tick → Line → Type 0
   After i last b r cpc pcslr rp k l =
       At D S clock (i + 1) (if_front k.front (at (i + 1)) last) (if_burst k.front (one_begun (i + 1) b) b) (cond (completes_at D r (i + 1)) nothing r) (counter_after k.front cpc) (cond k.report 0 (counter_after k.front pcslr)) rp l
 
-  module _ (i : ℕ) (last : Last) (b : Started) (r : Running) (cpc pcslr rp : ℕ) (t : Tariff) (w : ℕ) (ps : List Phase) (n k : ℕ) (u : Burst)
+  module _ (i : ℕ) (last : Last) (b : Started) (r : Running) (cpc pcslr : ℕ) (rp : Option ℕ) (t : Tariff) (w : ℕ) (ps : List Phase) (n k : ℕ) (u : Burst)
       (v : ℕ) (held : v ≡ held_since S last i) (before : Before last i) (a : Agree D ps n r t w i) (g : Good S ps n t w) (x : BurstAt D S i b u) (y : Apart S v (next_of t w)) where
     some : 1 ≤ S
     some = omega arith
@@ -171,7 +171,7 @@ module _ (D S clock : ℕ) (cfg : Config D S) where
         )
         (by t'.slot may-start (next-step S D ps n some fits t w g) (λ h. ((and-eq-true_iff (burst_ready S b (i + 1)) _).0 (sym ready-is ∙ h)).0) room-is)
 
-  pub tick-at : {i : ℕ} {last : Last} {b : Started} {r : Running} {cpc pcslr rp : ℕ} {l : Line} → At D S clock i last b r cpc pcslr rp l →
+  pub tick-at : {i : ℕ} {last : Last} {b : Started} {r : Running} {cpc pcslr : ℕ} {rp : Option ℕ} {l : Line} → At D S clock i last b r cpc pcslr rp l →
       ((tick_of l).tick ≡ tick_told i last b r pcslr rp (front_due i last b r)) × After i last b r cpc pcslr rp (tick_of l).tick (tick_of l).line
   unfolding tick_of moved_by
   tick-at {i} {last} {b} {r} {cpc} {pcslr} {rp} (line_at {v = v} {w = w} {t = t} {ps = ps} {n = n} {k = k} {u = u} e before a g x y) =

@@ -36,16 +36,16 @@ pub record Asked : Type 0 where
   pub tariff : TariffPart
   pub phases : List Phase
   pub burst : BurstPart
-  pub period : ℕ → ℕ
+  pub period : Option ℕ → Option ℕ
   pub tick : Bool
 
-abbrev pub asking : TariffPart → List Phase → BurstPart → (ℕ → ℕ) → Bool → Asked
+abbrev pub asking : TariffPart → List Phase → BurstPart → (Option ℕ → Option ℕ) → Bool → Asked
 asking t ps b f is_tick = record { tariff = t; phases = ps; burst = b; period = f; tick = is_tick }
 
 abbrev pub nothing : Asked
 nothing = asking KeepTariff [] KeepBurst (λ rp. rp) false
 
--- what a call asks; a report period of 0 is none
+-- what a call asks
 abbrev pub asks : Call → Asked
 asks (describe ticket unreadable) = nothing
 asks (describe ticket senseless) = nothing
@@ -53,8 +53,8 @@ asks (describe ticket (descriptor t ls b)) = asking t (phases_of ls) b (λ rp. r
 asks (ask d) = nothing
 asks (hook KeepHook) = nothing
 asks (hook Stop) = asking NoTariff [] NoBurst (λ rp. rp) false
-asks (period n) = asking KeepTariff [] KeepBurst (λ rp. n) false
-asks no_period = asking KeepTariff [] KeepBurst (λ rp. 0) false
+asks (period n) = asking KeepTariff [] KeepBurst (λ rp. Some n) false
+asks no_period = asking KeepTariff [] KeepBurst (λ rp. None) false
 asks audit = nothing
 asks tick = asking KeepTariff [] KeepBurst (λ rp. rp) true
 

@@ -1,6 +1,6 @@
 -- What a history says of the line: read from its calls and answers alone. A history is held newest first.
 use Rattle.std.specs.Prelude.{Bool, true, false, cond, ◌&&◌, ◌||◌, List, [], ◌∷◌, ℕ, ◌+◌, ◌-◌, max, leb, ltb, eqb}
-use Rattle.std.specs.Prelude.{Option}
+use Rattle.std.specs.Prelude.{Option, None}
 use Rattle.slots.specs.Slots.{Running, nothing, phased, em_at, rated, completes_at}
 use Rattle.demand.specs.Names.{Front, Tick, Phase, TariffPart, NoTariff, KeepTariff, Rate, Em, Phased, one_more}
 use Rattle.demand.specs.Names.{BurstPart, NoBurst, KeepBurst, Start, silent, if_front, if_burst, is_burst_front}
@@ -131,7 +131,7 @@ since_report (e ∷ h) =
     zeroed_by (granted e).tariff
     (cond (told e.answer).report 0 (if_front (front_of e) (one_more (since_report h)) (since_report h)))
 
--- the report period that is set, 0 for none
-unfoldable pub period_in : List Entry → ℕ
-period_in [] = 0
+-- the report period, if one is set
+unfoldable pub period_in : List Entry → Option ℕ
+period_in [] = None
 period_in (e ∷ h) = (granted e).period (period_in h)

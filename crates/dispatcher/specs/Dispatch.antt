@@ -61,17 +61,21 @@ turn_of w n next = going_round (λ i. tells (w i)) n next
 
 -- ---- one tick
 
--- no row yet: its length is 0
+-- no row yet
 unfoldable pub fresh_dispatcher : Dispatcher
-fresh_dispatcher = record { length = 0; next = 0; waiting = replicate 64 nothing }
+fresh_dispatcher = record { length = None; next = 0; waiting = replicate 64 nothing }
 
 -- a row of n is empty or longer than 64
 abbrev pub bad_row : ℕ → Bool
 bad_row n = n == 0 || nat_lt 64 n
 
--- or of another length than at first
-abbrev pub wrong_row : ℕ → ℕ → Bool
-wrong_row first n = bad_row n || (nat_lt 0 first && not (n == first))
+-- of another length than at first
+abbrev pub other_row : Option ℕ → ℕ → Bool
+other_row None n = false
+other_row (Some first) n = not (n == first)
+
+abbrev pub wrong_row : Option ℕ → ℕ → Bool
+wrong_row first n = bad_row n || other_row first n
 
 -- of the line at place i
 abbrev pub notice : ℕ → Waiting → Notice
@@ -83,8 +87,8 @@ sent_of w turn = option_map (λ i. notice i (w i)) turn
 
 -- the dispatcher after it: serving clears what waits
 abbrev pub served_by : ℕ → ℕ → List Waiting → Option ℕ → Dispatcher
-served_by n next ws None = record { length = n; next = next; waiting = ws }
-served_by n next ws (Some i) = record { length = n; next = place_after n i; waiting = set ws i nothing }
+served_by n next ws None = record { length = Some n; next = next; waiting = ws }
+served_by n next ws (Some i) = record { length = Some n; next = place_after n i; waiting = set ws i nothing }
 
 -- what is sent in a row of n whose lines' ticks told ts, and the dispatcher after it
 abbrev pub sent_by : Dispatcher → ℕ → List Tick → Option Notice

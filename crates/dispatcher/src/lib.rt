@@ -16,13 +16,12 @@ pub struct Waiting {
     pub reports: u32,
 }
 
-// The length of the row, 0 before the first tick that was taken; the place after the last served; and what waits of
-// each place.
-// No row of length 0 is taken, so that 0 says by itself that there was none yet.
+// The length of the row at the first tick that was taken, if there was one; the place after the last served; and what
+// waits of each place.
 // Stays: the 64 places are an array, since the gateway has fixed memory.
 #[derive(Clone, Copy)]
 pub struct Dispatcher {
-    pub length: usize,
+    pub length: Option<usize>,
     pub next: usize,
     pub waiting: [Waiting; 64],
 }

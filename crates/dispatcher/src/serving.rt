@@ -10,10 +10,11 @@ impl Dispatcher {
     pub(crate) fn refuses(&self, n: usize) -> bool
         ensures { result ≡ wrong_row self.now.length n }
     {
-        n == 0 || n > 64 || (self.length > 0 && n != self.length)
+        n == 0 || n > 64 || self.length.is_some_and(|first| n != first)
     }
 
     // Serves the line whose turn it is in a row of n: nothing waits of it any more once its notice is sent.
+    // Stays: a test of the place, since `get_mut` does not do, as `gather` says.
     pub(crate) fn serve(&mut self, n: usize) -> Option<Notice>
         ensures sent { let waits = waits_in self.old.waiting in
             result ≡ sent_of waits (turn_of waits n self.old.next) }
@@ -21,7 +22,7 @@ impl Dispatcher {
             self.new ≡ served_by n self.old.next self.old.waiting turn }
     {
         let turn = self.turn(n);
-        self.length = n;
+        self.length = Some(n);
         let place = turn?;
         self.next = place_after(n, place);
         let told = self.waits_at(place);

@@ -13,7 +13,7 @@ impl Dispatcher {
         ensures { result ≡ fresh_dispatcher }
     {
         Dispatcher {
-            length: 0,
+            length: None,
             next: 0,
             waiting: [Waiting::default(); 64],
         }

@@ -1,5 +1,5 @@
 -- What each command makes of a line and answers: what the code computes.
-use Rattle.std.specs.Prelude.{Bool, cond, List, ℕ, ◌+◌, max, length, Result, Ok, Err}
+use Rattle.std.specs.Prelude.{Bool, cond, List, ℕ, ◌+◌, max, length, Option, None, Some, Result, Ok, Err}
 use Rattle.tariff.specs.Tariffs.{em_of, phased_of, is_endless}
 use Rattle.tariff.specs.declared.Phase.{Phase}
 use Rattle.tariff.specs.declared.Tariff.TheVariants.{Idle}
@@ -56,7 +56,7 @@ idle_line D S clock since =
             since = since;
             tariff = Idle;
             burst = no_burst;
-            counters = zero_counters 0;
+            counters = zero_counters None;
           };
       phases = no_phases;
     }
@@ -193,16 +193,16 @@ ask_of l given = record { line = l; verdict = (commit_of l l.serial given).verdi
 
 -- ---- report period and audit
 
-abbrev pub with_period : Line → ℕ → Line
+abbrev pub with_period : Line → Option ℕ → Line
 with_period l rp =
     let n = l.state.counters in
     with_state l (with_counters l.state (record { cpc = n.cpc; pcslr = n.pcslr; rp = rp }))
 
 unfoldable pub period_of : Line → ℕ → Answered
-period_of l n = answered_by (ruling (period_causes n)) l (with_period l n) 0
+period_of l n = answered_by (ruling (period_causes n)) l (with_period l (Some n)) 0
 
 unfoldable pub no_period_of : Line → Answered
-no_period_of l = accepting (with_period l 0) 0
+no_period_of l = accepting (with_period l None) 0
 
 unfoldable pub audit_of : Line → Audited
 audit_of l = record { line = l; cpc = l.state.counters.cpc; pcslr = l.state.counters.pcslr }

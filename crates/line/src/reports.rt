@@ -14,7 +14,7 @@ impl Line {
         if rp == 0 {
             return self.refusing(Refusal::Period);
         }
-        self.state.counters.rp = rp;
+        self.state.counters.rp = Some(rp);
         self.accepting(0)
     }
 
@@ -23,7 +23,7 @@ impl Line {
     pub fn clear_period(mut self) -> Answered
         ensures { result ≡ no_period_of self }
     {
-        self.state.counters.rp = 0;
+        self.state.counters.rp = None;
         self.accepting(0)
     }
 

@@ -1,7 +1,7 @@
 -- What the code makes of the state of a line: its parts, its counters, and a tick at which nothing happens.
 use Rattle.std.specs.Prelude.{ℕ, ◌+◌, ◌-◌, ◌%◌, ◌^◌, max, Bool, true, false, cond, not, ◌&&◌, ◌||◌, nat_le, nat_lt}
-use Rattle.std.specs.Prelude.{Option, None, Some}
-use Rattle.answers.specs.Fronts.{if_front, silent}
+use Rattle.std.specs.Prelude.{Option}
+use Rattle.answers.specs.Fronts.{if_front}
 use Rattle.answers.specs.declared.Front.{Front}
 use Rattle.tariff.specs.Tariffs.{rate_of, is_idle}
 use Rattle.tariff.specs.declared.Tariff.{Tariff}
@@ -12,7 +12,6 @@ use Rattle.state.specs.Rules.{one_more, report_due}
 use Rattle.state.specs.declared.Counters.{Counters}
 use Rattle.state.specs.declared.Count.{Count}
 use Rattle.state.specs.declared.State.{State}
-use Rattle.state.specs.declared.Moved.{Moved}
 
 -- ---- its parts
 
@@ -42,7 +41,7 @@ origin_wait S s = max 1 (S - s.since)
 
 -- ---- the counters
 
-abbrev pub zero_counters : ℕ → Counters
+abbrev pub zero_counters : Option ℕ → Counters
 zero_counters rp = record { cpc = 0; pcslr = 0; rp = rp }
 
 -- a front adds 1 to both counters, and may give a report
@@ -80,7 +79,3 @@ waited_of S s =
       burst = older_of s.burst;
       counters = s.counters;
     }
-
--- the tick where it is quiet; none where more may happen than that time goes on
-unfoldable pub quick_of : ℕ → ℕ → State → Option Moved
-quick_of D S s = cond (quiet_of D S s) (Some (record { state = waited_of S s; tick = silent; event = false })) None

@@ -7,10 +7,10 @@ use super::{Count, Counters};
 use answers::Front;
 
 // Whether a front that leaves pcslr at n gives a report.
-fn report_due(rp: u32, n: u32) -> bool
+fn report_due(rp: Option<u32>, n: u32) -> bool
     ensures { result ≡ report_due rp n }
 {
-    0 < rp && rp <= n
+    rp.is_some_and(|rp| rp <= n)
 }
 
 impl Counters {

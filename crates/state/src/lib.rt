@@ -9,13 +9,12 @@ use answers::Tick;
 use burst::Burst;
 use tariff::Tariff;
 
-// The pulses applied, the pulses since the last report, and the report period, 0 for none.
-// A period of 0 is refused as a request, so that 0 is free to say none.
+// The pulses applied, the pulses since the last report, and the report period, if one is set.
 #[derive(Clone, Copy, PartialEq, Eq, Debug, Default)]
 pub struct Counters {
     pub cpc: u32,
     pub pcslr: u32,
-    pub rp: u32,
+    pub rp: Option<u32>,
 }
 
 // The counters after a front, and whether it gives a report.

@@ -1,9 +1,8 @@
 // Quiet ticks: nothing is due, nothing ends, no burst pulse may start, and time goes on.
 ghost use Rattle.std.specs.Prelude.{◌≡◌};
-ghost use Rattle.state.specs.States.{quiet_of, waited_of, quick_of};
+ghost use Rattle.state.specs.States.{quiet_of, waited_of};
 
-use super::{Moved, State};
-use answers::Tick;
+use super::State;
 
 impl State {
     // Whether the next tick is quiet, on a line of this pulse length and spacing.
@@ -29,20 +28,5 @@ impl State {
             burst: self.burst.older(),
             ..self
         }
-    }
-
-    // The tick where it is quiet; none where more may happen than that time goes on.
-    #[tactic(auto, unfolding(crate::specs::States::quick_of))]
-    pub fn quick(self, pulse: u32, spacing: u32) -> Option<Moved>
-        ensures { result ≡ quick_of pulse spacing self }
-    {
-        if !self.is_quiet(pulse, spacing) {
-            return None;
-        }
-        Some(Moved {
-            state: self.waited(spacing),
-            tick: Tick::default(),
-            event: false,
-        })
     }
 }

@@ -3,7 +3,7 @@ use Rattle.std.proofs.Common.{◌≡◌, ℕ, ◌-◌, ◌≤◌, Bool, true, fa
 use mathlib.Core.Bool.{and-eq-true_iff, false≢true}
 use borrow.Author.Tests.{not-true}
 use borrow.Table.Steps.{cases}
-use Rattle.std.proofs.lemmas.Option.{none-some, same_Some}
+use Rattle.answers.specs.Fronts.{silent}
 use Rattle.tariff.specs.Tariffs.{room_of, is_idle}
 use Rattle.steps.specs.Steps.{waiting, stepped, due_of, step_of}
 use Rattle.tariff.specs.declared.Phase.{Phase}
@@ -11,7 +11,7 @@ use Rattle.tariff.specs.declared.Tariff.{Tariff}
 use Rattle.tariff.specs.declared.Tariff.TheVariants.{Idle, Endless, Counted, Phased, Ending}
 use Rattle.burst.specs.Bursts.{is_running, held_more, older_of, completes_of, aged_of, is_due, burst_quiet}
 use Rattle.burst.specs.declared.Burst.{Burst}
-use Rattle.state.specs.States.{is_on, count_by, quiet_of, waited_of, quick_of}
+use Rattle.state.specs.States.{is_on, count_by, quiet_of, waited_of}
 use Rattle.state.specs.declared.Moved.{Moved}
 use Rattle.state.specs.declared.State.{State}
 use Rattle.ticking.specs.Moves.{since_front, burst_after, happens, moved_by}
@@ -66,17 +66,9 @@ no_more true false c h = refl
 no_more false b c h = refl
 
 module _ (D S : ℕ) (ps : List Phase) (n : ℕ) (s : State) where
-  pub quiet_moves : quiet_of D S s ≡ true → quick_of D S s ≡ Some (moved_by D S ps n s)
-  unfolding moved_by quick_of waited_of count_by since_front burst_after happens
+  pub quiet_moves : quiet_of D S s ≡ true → moved_by D S ps n s ≡ record { state = waited_of S s; tick = silent; event = false }
+  unfolding moved_by waited_of count_by since_front burst_after happens
   quiet_moves h =
       let q : Quiet D S s = quiet-parts D S s h in
       let still = no_more (is_due (older_of s.burst)) (leb S (held_more S s.since)) (room_of S s.tariff (s.wait - 1)) q.rests in
-      rw (h, step_waits D ps n s.tariff s.wait q.waits, burst_ages D s.burst q.runs, still, q.holds)
-
-  -- so a quick tick is a tick of the line
-  pub quick_moves : (m : Moved) → quick_of D S s ≡ Some m → m ≡ moved_by D S ps n s
-  unfolding quick_of
-  quick_moves m is =
-      cases (quiet_of D S s)
-      (λ h. same_Some m (moved_by D S ps n s) (sym is ∙ quiet_moves h))
-      (λ h. absurd (none-some m (rw h at is)))
+      rw (step_waits D ps n s.tariff s.wait q.waits, burst_ages D s.burst q.runs, still, q.holds)

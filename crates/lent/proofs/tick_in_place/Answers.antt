@@ -1,8 +1,7 @@
 -- `tick_in_place` meets its contract: a quiet tick only moves time on.
 use Rattle.std.proofs.Common.{rules, ◌≡◌, true, false, refl, sym, ap, ◌∙◌}
-use Rattle.std.proofs.lemmas.Option.{same_Some}
 use Rattle.answers.specs.Fronts.{silent}
-use Rattle.state.specs.States.{quiet_of, quick_of, waited_of}
+use Rattle.state.specs.States.{quiet_of, waited_of}
 use Rattle.state.specs.declared.Moved.{Moved}
 use Rattle.ticking.proofs.QuietTicks.{quiet_moves}
 use Rattle.line.specs.Lines.{move_of, tick_of}
@@ -10,8 +9,7 @@ use Rattle.line.specs.declared.Line.{Line}
 use Rattle.lent.proofs.tick_in_place.Goals as goal
 
 quiet-move : (l : Line) → quiet_of l.pulse l.spacing l.state ≡ true → move_of l ≡ record { state = waited_of l.spacing l.state; tick = silent; event = false }
-unfolding quick_of
-quiet-move l h = same_Some _ _ (sym (rw h at (quiet_moves l.pulse l.spacing l.phases l.count l.state h)))
+quiet-move l h = quiet_moves l.pulse l.spacing l.phases l.count l.state h
 
 pub returns-then-is_quiet-clause-told : goal.returns-then-is_quiet-clause-told
 unfolding tick_of
