@@ -16,11 +16,10 @@ use Rattle.tariff.specs.Tariffs.{rate_of, is_endless}
 use Rattle.steps.specs.Steps.{due_of, step_of}
 use Rattle.tariff.specs.declared.Tariff.TheVariants.{Idle}
 use Rattle.phase_lists.specs.Lists.{Lists, phases_of, sound_lists}
-use Rattle.phase_lists.specs.Tables.{eight_of}
 use Rattle.descriptor.specs.Refusals.{ruling, sound_configuration, tariff_causes, burst_causes}
 use Rattle.burst.specs.Bursts.{is_running, held_more, aged_of, is_due}
 use Rattle.ticking.specs.Moves.{moved_by}
-use Rattle.line.specs.Lines.{blank_line, make_of, with_serial, ask_of, hook_of, period_of, no_period_of, audit_of, answered_by, tariff_changed, burst_changed, with_period, move_of, tick_of}
+use Rattle.line.specs.Lines.{blank_line, make_of, with_serial, ask_of, hook_of, period_of, no_period_of, audit_of, answered_by, scheduled, tariff_changed, burst_changed, with_period, move_of, tick_of}
 use Rattle.line.specs.declared.Line.{Line}
 use Rattle.grammar.specs.Meaning.{Reading, unreadable, senseless, descriptor}
 use Rattle.demand.specs.Names.{Phase, TariffPart, NoTariff, KeepTariff, Rate, Em, Phased, BurstPart, NoBurst, KeepBurst, Start, KeepHook, Stop, Ruling, Ok, Err}
@@ -63,7 +62,7 @@ phases-small S (p ∷ ps) some h =
 
 module _ (i : ℕ) where
   -- ---- commands
-  tariff-quiet : (e b : Bool) (t : TariffPart) (ls : Lists) (l : Line) → ruling (tariff_causes l.spacing e b t ls) ≡ Ok tt → Quiet i l → Quiet i (tariff_changed t (length (phases_of ls)) (eight_of (phases_of ls)) l)
+  tariff-quiet : (e b : Bool) (t : TariffPart) (ls : Lists) (l : Line) → ruling (tariff_causes l.spacing e b t ls) ≡ Ok tt → Quiet i l → Quiet i (tariff_changed t (scheduled (phases_of ls)) l)
   unfolding tariff_changed rate_of
   tariff-quiet e b NoTariff ls l h x = record { spacing = x.spacing; tariff = refl; wait = refl; since = x.since }
   tariff-quiet e b KeepTariff ls l h x = x
@@ -117,7 +116,7 @@ module _ (h : List Entry) (l : Line) (x : QuietPast (past h l)) where
       let running : Bool = is_running l.state.burst in
       let own = allowed-reading l.spacing endless running l.serial k (descriptor t ls p) e in
       let free = (none_after (tariff_causes l.spacing endless running t ls) (burst_causes l.spacing endless running p) own).0 in
-      (with-serial (ticks h) _ (burst-quiet (ticks h) p (tariff_changed t (length (phases_of ls)) (eight_of (phases_of ls)) l) (tariff-quiet (ticks h) endless running t ls l free (x early).0)), omega (arith, (x early).1))
+      (with-serial (ticks h) _ (burst-quiet (ticks h) p (tariff_changed t (scheduled (phases_of ls)) l) (tariff-quiet (ticks h) endless running t ls l free (x early).0)), omega (arith, (x early).1))
 
   ruled : (n : ℕ) (rp : Option ℕ) (u : Ruling) → QuietPast (noted h (period n) (answered (answered_by u l (with_period l rp) 0)))
   unfolding ticks sum

@@ -8,7 +8,6 @@ use native.Mathlib.Omega.{arith}
 use borrow.Author.Tests.{leb-true, not-false}
 use borrow.Table.Steps.{cases}
 use lib.Dec.{leb}
-use lib.ListN.{length}
 use Rattle.answers.specs.declared.Front.{Front}
 use Rattle.answers.specs.declared.Front.TheVariants.{Tariff as TariffFront, Burst as BurstFront}
 use Rattle.tariff.specs.Ranges.{within}
@@ -17,7 +16,6 @@ use Rattle.steps.specs.Steps.{step_of}
 use Rattle.tariff.specs.declared.Phase.{Phase}
 use Rattle.steps.specs.declared.Stepped.{Stepped}
 use Rattle.phase_lists.specs.Lists.{phases_of}
-use Rattle.phase_lists.specs.Tables.{eight_of}
 use Rattle.descriptor.specs.Refusals.{ruling, sound_burst, tariff_causes, burst_causes}
 use Rattle.descriptor.specs.declared.TariffPart.{TariffPart}
 use Rattle.descriptor.specs.declared.TariffPart.TheVariants.{None as NoTariff, Keep as KeepTariff, Rate, Em, Phased}
@@ -35,7 +33,7 @@ use Rattle.state.specs.declared.Counters.{Counters}
 use Rattle.state.specs.declared.State.{State}
 use Rattle.ticking.specs.Rules.{front_at}
 use Rattle.ticking.specs.Moves.{since_front, burst_after, moved_by}
-use Rattle.line.specs.Lines.{fresh_line, with_serial, ask_of, hook_of, period_of, no_period_of, audit_of, answered_by, tariff_changed, burst_changed, with_period, tick_of}
+use Rattle.line.specs.Lines.{fresh_line, with_serial, ask_of, hook_of, period_of, no_period_of, audit_of, answered_by, scheduled, tariff_changed, burst_changed, with_period, tick_of}
 use Rattle.line.specs.declared.Line.{Line}
 use Rattle.grammar.specs.Meaning.{Reading, unreadable, senseless, descriptor}
 use Rattle.demand.specs.Calls.{Call, describe, ask, hook, period, no_period, audit, tick, Entry}
@@ -69,7 +67,7 @@ no-burst : BurstBounded no_burst
 no-burst = omega arith
 
 -- ---- commands
-tariff-bounded : (t : TariffPart) (ps : List Phase) (l : Line) → Bounded l → Bounded (tariff_changed t (length ps) (eight_of ps) l)
+tariff-bounded : (t : TariffPart) (ps : List Phase) (l : Line) → Bounded l → Bounded (tariff_changed t (scheduled ps) l)
 unfolding tariff_changed
 tariff-bounded NoTariff ps l x = record { spacing = x.spacing; serial = x.serial; state = record { clock = x.state.clock; since = x.state.since; burst = x.state.burst; counters = x.state.counters } }
 tariff-bounded KeepTariff ps l x = x
@@ -124,7 +122,7 @@ described k (descriptor t ls p) l (Ok tt) e x =
     let running : Bool = is_running l.state.burst in
     let own = allowed-reading l.spacing endless running l.serial k (descriptor t ls p) e in
     let free = none_after (tariff_causes l.spacing endless running t ls) (burst_causes l.spacing endless running p) own in
-    accepted-bounded _ (burst-bounded p (tariff_changed t (length (phases_of ls)) (eight_of (phases_of ls)) l) (allows l.spacing endless running p free.1) (tariff-bounded t (phases_of ls) l x))
+    accepted-bounded _ (burst-bounded p (tariff_changed t (scheduled (phases_of ls)) l) (allows l.spacing endless running p free.1) (tariff-bounded t (phases_of ls) l x))
 
 ruled : (rp : Option ℕ) (l : Line) (u : Ruling) → Bounded l → OutcomeBounded (answered (answered_by u l (with_period l rp) 0))
 ruled rp l (Ok tt) x =
@@ -175,7 +173,7 @@ tick-bounded : (l : Line) → Bounded l → Bounded (tick_of l).line
 unfolding tick_of moved_by
 tick-bounded l x =
     let s = l.state in
-    let t : Stepped = step_of l.pulse l.phases l.count s.tariff s.wait in
+    let t : Stepped = step_of l.pulse l.schedule s.tariff s.wait in
     let b : Aged = aged_of l.pulse s.burst in
     let since : ℕ = held_more l.spacing s.since in
     let f : Option Front = front_at t.slot (is_due b.burst && (leb l.spacing since && room_of l.spacing t.tariff t.wait)) in

@@ -15,7 +15,7 @@ use Rattle.descriptor.specs.declared.TariffPart.{TariffPart}
 use Rattle.descriptor.specs.declared.TariffPart.TheVariants.{None as NoTariff, Keep as KeepTariff, Rate, Em, Phased}
 use Rattle.descriptor.specs.declared.BurstPart.{BurstPart}
 use Rattle.descriptor.specs.declared.BurstPart.TheVariants.{None as NoBurst, Keep as KeepBurst, Start}
-use Rattle.line.specs.Lines.{tariff_changed, burst_changed, with_period}
+use Rattle.line.specs.Lines.{scheduled, tariff_changed, burst_changed, with_period}
 use Rattle.line.specs.declared.Line.{Line}
 use Rattle.demand.specs.History.{Last, Started, origin_after, changed_by, zeroed_by, burst_by}
 use Rattle.slots.proofs.Ahead.{Waits}
@@ -45,7 +45,7 @@ module _ (D S clock : ℕ) (cfg : Config D S) where
   wait-fits w = record { some = omega arith; most = omega arith }
 
   pub tariff-at : {i : ℕ} {last : Last} {b : Started} {r : Running} {cpc pcslr : ℕ} {rp : Option ℕ} {l : Line} (t : TariffPart) (ps : List Phase) → TariffTaken S t ps r → At D S clock i last b r cpc pcslr rp l →
-      At D S clock i last b (changed_by t ps (origin_after S last i) i r) (zeroed_by t cpc) (zeroed_by t pcslr) rp (tariff_changed t (length ps) (eight_of ps) l)
+      At D S clock i last b (changed_by t ps (origin_after S last i) i r) (zeroed_by t cpc) (zeroed_by t pcslr) rp (tariff_changed t (scheduled ps) l)
   unfolding tariff_changed
   tariff-at {i} NoTariff ps h (line_at {ps = qs} {n = n} e before a g u x) = line_at e before (agree-idle D qs n 0 i) tt u (λ z. absurd (z refl))
   tariff-at KeepTariff ps h (line_at e before a g u x) = line_at e before a g u x

@@ -4,15 +4,13 @@ use mathlib.Core.Path.{◌≡◌, refl, sym, ap, ◌∙◌}
 use mathlib.Core.Bool.{Bool}
 use Prim.Native.Nat.{ℕ}
 use native.Mathlib.Omega.{arith}
-use lib.ListN.{length}
 use Rattle.tariff.specs.Tariffs.{is_endless}
 use Rattle.phase_lists.specs.Lists.{phases_of}
-use Rattle.phase_lists.specs.Tables.{eight_of}
 use Rattle.descriptor.specs.Refusals.{ruling, ticket_causes}
 use Rattle.descriptor.specs.Rulings.{and_then}
 use Rattle.descriptor.specs.Cancelled.{cancelled_by}
 use Rattle.burst.specs.Bursts.{is_running}
-use Rattle.line.specs.Lines.{describe_of, read_answer, commit_of, answered_by, if_allowed, tariff_changed, burst_changed}
+use Rattle.line.specs.Lines.{describe_of, read_answer, commit_of, answered_by, if_allowed, scheduled, tariff_changed, burst_changed}
 use Rattle.line.specs.declared.Line.{Line}
 use Rattle.line.specs.declared.Answered.{Answered}
 use Rattle.grammar.specs.Meaning.{Reading, unreadable, senseless, descriptor}
@@ -25,7 +23,7 @@ use Rattle.descriptor.proofs.Causes.{none_after, ruling_append}
 abbrev pub change_of : Reading → Line → Line
 change_of unreadable l = l
 change_of senseless l = l
-change_of (descriptor t ls b) l = burst_changed b (tariff_changed t (length (phases_of ls)) (eight_of (phases_of ls)) l)
+change_of (descriptor t ls b) l = burst_changed b (tariff_changed t (scheduled (phases_of ls)) l)
 
 -- the burst pulses that it cancels
 abbrev pub cancels : Reading → Line → ℕ

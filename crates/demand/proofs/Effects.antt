@@ -83,7 +83,7 @@ aged-is : (D m g k : ℕ) → aged_of D (burst_with (suc m) g k) ≡ record { bu
 unfolding aged_of completes_of
 aged-is D m g k = rw (ne_eqb (suc m) 0 (λ z. omega arith), and-false (ltb 0 g))
 
-module _ (l : Line) (cfg : Config l.pulse l.spacing) (good : Good l.spacing l.phases l.count l.state.tariff l.state.wait) (m g k : ℕ) (owing : l.state.burst ≡ burst_with (suc m) g k) (wide : l.spacing ≤ g) where
+module _ (l : Line) (cfg : Config l.pulse l.spacing) (good : Good l.spacing l.schedule.phases l.schedule.count l.state.tariff l.state.wait) (m g k : ℕ) (owing : l.state.burst ≡ burst_with (suc m) g k) (wide : l.spacing ≤ g) where
   abbrev pub S : ℕ
   S = l.spacing
 
@@ -95,7 +95,7 @@ module _ (l : Line) (cfg : Config l.pulse l.spacing) (good : Good l.spacing l.ph
 
   module _ (c : Call) (ticking : (asks c).tick ≡ true) where
     abbrev t' : Stepped
-    t' = step_of l.pulse l.phases l.count l.state.tariff l.state.wait
+    t' = step_of l.pulse l.schedule l.state.tariff l.state.wait
 
     abbrev u' : Aged
     u' = record { burst = burst_with (suc m) g (min g (k + 1)); complete = false }
@@ -130,7 +130,7 @@ module _ (l : Line) (cfg : Config l.pulse l.spacing) (good : Good l.spacing l.ph
     blocked : may-start ≡ false → next_of t'.tariff t'.wait ≡ next_of l.state.tariff l.state.wait - 1 → Blocked S l.state.since g k (next_of l.state.tariff l.state.wait)
     blocked h e =
         blocked-by S l.state.since g k (next_of l.state.tariff l.state.wait) (next_of t'.tariff t'.wait) _ _ _ e refl refl
-        (sym (room_next S l.phases l.count t'.tariff t'.wait (good-step S l.pulse l.phases l.count some fits l.state.tariff l.state.wait good))) (rw (lt-ltb 0 (suc m) (omega arith)) at h)
+        (sym (room_next S l.schedule.phases l.schedule.count t'.tariff t'.wait (good-step S l.pulse l.schedule.phases l.schedule.count some fits l.state.tariff l.state.wait good))) (rw (lt-ltb 0 (suc m) (omega arith)) at h)
 
     by : (s : Option Slot) (may : Bool) → may-start ≡ may → Next S (next_of l.state.tariff l.state.wait) (next_of t'.tariff t'.wait) s → TickEffect (tick_with u' (front_at s may))
     unfolding since_front burst_after
@@ -140,7 +140,7 @@ module _ (l : Line) (cfg : Config l.pulse l.spacing) (good : Good l.spacing l.ph
     by (Some Pulse) may h (pulse p q) = pulse-due ticking refl p q refl refl
 
     with-aged : (x : Aged) → x ≡ u' → TickEffect (tick_with x (front_with x))
-    with-aged x e = rw e (by t'.slot may-start refl (next-step S l.pulse l.phases l.count some fits l.state.tariff l.state.wait good))
+    with-aged x e = rw e (by t'.slot may-start refl (next-step S l.pulse l.schedule.phases l.schedule.count some fits l.state.tariff l.state.wait good))
 
     tick-effect : TickEffect (tick_of l)
     unfolding tick_of moved_by

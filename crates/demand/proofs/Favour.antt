@@ -8,6 +8,7 @@ use native.Mathlib.Omega.{arith}
 use borrow.Table.Steps.{cases}
 use lib.Dec.{ltb}
 use Rattle.tariff.specs.Tariffs.{is_endless}
+use Rattle.tariff.specs.declared.Schedule.{Schedule}
 use Rattle.tariff.specs.declared.Tariff.{Tariff}
 use Rattle.tariff.specs.declared.Tariff.TheVariants.{Idle, Endless, Counted, Phased as PhasedRuns, Ending}
 use Rattle.steps.specs.Steps.{due_of, step_of}
@@ -19,7 +20,7 @@ use Rattle.burst.specs.declared.Burst.{Burst as Bursting}
 use Rattle.ticking.specs.Moves.{burst_after, moved_by}
 use Rattle.line.specs.Lines.{hook_of, period_of, no_period_of, audit_of, ask_of, tick_of, answered_by}
 use Rattle.line.specs.declared.Line.{Line}
-use Rattle.demand.specs.Names.{Front, TariffFront, BurstFront, Phase, TariffPart, NoTariff, KeepTariff, Rate, Em, Phased, BurstPart, NoBurst, KeepBurst, Start, KeepHook, Stop, Ruling, Ok, Err, Reading, unreadable, senseless, descriptor}
+use Rattle.demand.specs.Names.{Front, TariffFront, BurstFront, TariffPart, NoTariff, KeepTariff, Rate, Em, Phased, BurstPart, NoBurst, KeepBurst, Start, KeepHook, Stop, Ruling, Ok, Err, Reading, unreadable, senseless, descriptor}
 use Rattle.demand.specs.Calls.{Call, describe, ask, hook, period, no_period, audit, tick, Answer}
 use Rattle.demand.specs.Serials.{is_change}
 use Rattle.demand.specs.Machine.{ruling_of, Outcome, outcome, answered, step}
@@ -66,17 +67,17 @@ allows-more S t ls b false false false true f g x = absurd (true≢false (sym (g
 allows-more S t ls b false false false false f g x = x
 
 -- ---- a tick: an em with C = 0 goes on, and no burst begins to run
-due-endless : (D : ℕ) (ps : List Phase) (n : ℕ) (t : Tariff) → is_endless t ≡ true → is_endless (due_of D ps n t).tariff ≡ true
+due-endless : (D : ℕ) (ps : Schedule) (t : Tariff) → is_endless t ≡ true → is_endless (due_of D ps t).tariff ≡ true
 unfolding due_of
-due-endless D ps n Idle e = absurd (true≢false (sym e))
-due-endless D ps n (Endless P) e = refl
-due-endless D ps n (Counted C P k) e = absurd (true≢false (sym e))
-due-endless D ps n (PhasedRuns i j l k) e = absurd (true≢false (sym e))
-due-endless D ps n Ending e = absurd (true≢false (sym e))
+due-endless D ps Idle e = absurd (true≢false (sym e))
+due-endless D ps (Endless P) e = refl
+due-endless D ps (Counted C P k) e = absurd (true≢false (sym e))
+due-endless D ps (PhasedRuns i j l k) e = absurd (true≢false (sym e))
+due-endless D ps Ending e = absurd (true≢false (sym e))
 
-endless-on : (D : ℕ) (ps : List Phase) (n : ℕ) (t : Tariff) (w : ℕ) → is_endless t ≡ true → is_endless (step_of D ps n t w).tariff ≡ true
+endless-on : (D : ℕ) (ps : Schedule) (t : Tariff) (w : ℕ) → is_endless t ≡ true → is_endless (step_of D ps t w).tariff ≡ true
 unfolding step_of
-endless-on D ps n t w e = cases (ltb 1 w) (λ h. rw h e) (λ h. rw h (due-endless D ps n t e))
+endless-on D ps t w e = cases (ltb 1 w) (λ h. rw h e) (λ h. rw h (due-endless D ps t e))
 
 burst-on : (f : Option Front) (b : Bursting) → is_running (burst_after f b) ≡ true → is_running b ≡ true
 unfolding burst_after
@@ -98,7 +99,7 @@ tick_favours unreadable l x = x
 tick_favours senseless l x = x
 tick_favours (descriptor t ls b) l x =
     let s = l.state in
-    allows-more l.spacing t ls b _ _ _ _ (endless-on l.pulse l.phases l.count s.tariff s.wait) (λ e. aged-on l.pulse s.burst (burst-on _ (aged_of l.pulse s.burst).burst e)) x
+    allows-more l.spacing t ls b _ _ _ _ (endless-on l.pulse l.schedule s.tariff s.wait) (λ e. aged-on l.pulse s.burst (burst-on _ (aged_of l.pulse s.burst).burst e)) x
 
 -- a call that is not accepted
 abbrev Keeps : Reading → Line → Outcome → Type 0

@@ -1,13 +1,13 @@
 -- The serial of a line after each call: an accepted call adds 1 to it, held at its top.
 use mathlib.Core.Path.{◌≡◌, refl, ap}
-use mathlib.Core.List.{List}
 use Prim.Native.Nat.{ℕ, ◌+◌, min}
 use native.Mathlib.Omega.{arith}
 use Rattle.state.specs.Rules.{one_more}
+use Rattle.tariff.specs.declared.Schedule.{Schedule}
 use Rattle.line.specs.Lines.{hook_of, period_of, no_period_of, audit_of, ask_of, tick_of, answered_by, tariff_changed, burst_changed}
 use Rattle.line.specs.declared.Line.{Line}
 use Rattle.grammar.specs.Meaning.{Reading, unreadable, senseless, descriptor}
-use Rattle.demand.specs.Names.{Phase, TariffPart, NoTariff, KeepTariff, Rate, Em, Phased, BurstPart, NoBurst, KeepBurst, Start, KeepHook, Stop, Ruling, Ok, Err}
+use Rattle.demand.specs.Names.{TariffPart, NoTariff, KeepTariff, Rate, Em, Phased, BurstPart, NoBurst, KeepBurst, Start, KeepHook, Stop, Ruling, Ok, Err}
 use Rattle.demand.specs.Calls.{Call, describe, ask, hook, period, no_period, audit, tick, Answer, accepted, refused, asked, counters, ticked}
 use Rattle.demand.specs.Serials.{is_change}
 use Rattle.demand.specs.Machine.{ruling_of, Outcome, outcome, answered, step}
@@ -25,13 +25,13 @@ serial-held (counters c m) n = omega arith
 serial-held (ticked t) n = omega arith
 
 -- the parts of a descriptor leave it
-tariff-serial : (t : TariffPart) (n : ℕ) (ps : List Phase) (l : Line) → (tariff_changed t n ps l).serial ≡ l.serial
+tariff-serial : (t : TariffPart) (ps : Schedule) (l : Line) → (tariff_changed t ps l).serial ≡ l.serial
 unfolding tariff_changed
-tariff-serial NoTariff n ps l = refl
-tariff-serial KeepTariff n ps l = refl
-tariff-serial (Rate P) n ps l = refl
-tariff-serial (Em C P) n ps l = refl
-tariff-serial Phased n ps l = refl
+tariff-serial NoTariff ps l = refl
+tariff-serial KeepTariff ps l = refl
+tariff-serial (Rate P) ps l = refl
+tariff-serial (Em C P) ps l = refl
+tariff-serial Phased ps l = refl
 
 burst-serial : (b : BurstPart) (l : Line) → (burst_changed b l).serial ≡ l.serial
 unfolding burst_changed
@@ -42,7 +42,7 @@ burst-serial (Start n P) l = refl
 change_serial : (d : Reading) (l : Line) → (change_of d l).serial ≡ l.serial
 change_serial unreadable l = refl
 change_serial senseless l = refl
-change_serial (descriptor t ls b) l = rw (burst-serial b (tariff_changed t _ _ l), tariff-serial t _ _ l)
+change_serial (descriptor t ls b) l = rw (burst-serial b (tariff_changed t _ l), tariff-serial t _ l)
 
 abbrev SerialOf : Line → Outcome → Type 0
 SerialOf l (outcome a l') = l'.serial ≡ serial_by a l.serial

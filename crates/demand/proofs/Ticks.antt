@@ -10,7 +10,7 @@ use lib.Dec.{leb, eqb}
 use Rattle.answers.specs.Fronts.{if_front, if_burst}
 use Rattle.answers.specs.declared.Front.{Front}
 use Rattle.answers.specs.declared.Tick.{Tick}
-use Rattle.tariff.specs.Tariffs.{room_of}
+use Rattle.tariff.specs.Tariffs.{room_of, schedule_of}
 use Rattle.steps.specs.Steps.{step_of}
 use Rattle.tariff.specs.declared.Phase.{Phase}
 use Rattle.tariff.specs.declared.Tariff.{Tariff}
@@ -82,7 +82,7 @@ module _ (D S clock : ℕ) (cfg : Config D S) where
     fits = record { some = omega arith; most = omega arith }
 
     abbrev t' : Stepped
-    t' = step_of D ps n t w
+    t' = step_of D (schedule_of ps n) t w
 
     abbrev u' : Aged
     u' = aged_of D u
@@ -117,7 +117,6 @@ module _ (D S clock : ℕ) (cfg : Config D S) where
         record {
           pulse = D;
           spacing = S;
-          count = n;
           serial = k;
           state =
               record {
@@ -128,7 +127,7 @@ module _ (D S clock : ℕ) (cfg : Config D S) where
                 burst = burst_after f u'.burst;
                 counters = (count_by f (record { cpc = cpc; pcslr = pcslr; rp = rp })).counters;
               };
-          phases = ps;
+          schedule = schedule_of ps n;
         }
 
     -- by the slot that is due and whether a burst pulse may start

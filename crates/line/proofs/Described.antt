@@ -5,10 +5,8 @@ use mathlib.Core.List.{List}
 use Prim.Native.Nat.{ℕ}
 use borrow.Author.Tests.{not-false}
 use borrow.Table.Steps.{cases}
-use lib.ListN.{length}
-use Rattle.tariff.specs.Tariffs.{is_endless}
+use Rattle.tariff.specs.Tariffs.{is_endless, schedule_of}
 use Rattle.phase_lists.specs.Lists.{Lists, phases_of, sound_lists, first_places}
-use Rattle.phase_lists.specs.Tables.{eight_of}
 use Rattle.phase_lists.proofs.PhaseTables.{sound-table}
 use Rattle.descriptor.specs.Refusals.{ruling, tariff_causes, burst_causes, descriptor_causes}
 use Rattle.descriptor.specs.Rulings.{table_for}
@@ -20,7 +18,7 @@ use Rattle.descriptor.specs.declared.TariffPart.TheVariants.{None as NoTariff, K
 use Rattle.descriptor.specs.declared.BurstPart.{BurstPart}
 use Rattle.burst.specs.Bursts.{is_running}
 use Rattle.descriptor.specs.Cancelled.{cancelled_by}
-use Rattle.line.specs.Lines.{tariff_changed, refusing, answered_by, described_by, describe_of, read_answer, describe_text_of}
+use Rattle.line.specs.Lines.{scheduled, tariff_changed, refusing, answered_by, described_by, describe_of, read_answer, describe_text_of}
 use Rattle.line.specs.declared.Answered.{Answered}
 use Rattle.line.specs.declared.Line.{Line}
 use Rattle.grammar.specs.Meaning.{Reading as Meant, unreadable, senseless, descriptor, reading_of}
@@ -33,7 +31,7 @@ use Rattle.descriptor.proofs.Causes.{none_first, none_after}
 use Rattle.descriptor.proofs.Rulings.{descriptor-ruling-is}
 
 -- where the tariff part is allowed, the table holds the phases of its lists
-tariff-changed-is : (S : ℕ) (e b : Bool) (t : TariffPart) (ls : Lists) (l : Line) → ruling (tariff_causes S e b t ls) ≡ Ok tt → tariff_changed t (table_for S t ls).carry.count (table_for S t ls).phases l ≡ tariff_changed t (length (phases_of ls)) (eight_of (phases_of ls)) l
+tariff-changed-is : (S : ℕ) (e b : Bool) (t : TariffPart) (ls : Lists) (l : Line) → ruling (tariff_causes S e b t ls) ≡ Ok tt → tariff_changed t (schedule_of (table_for S t ls).phases (table_for S t ls).carry.count) l ≡ tariff_changed t (scheduled (phases_of ls)) l
 unfolding tariff_changed
 tariff-changed-is S e b NoTariff ls l h = refl
 tariff-changed-is S e b KeepTariff ls l h = refl

@@ -1,7 +1,8 @@
 -- What each command makes of a line and answers: what the code computes.
 use Rattle.std.specs.Prelude.{Bool, cond, List, ℕ, ◌+◌, max, length, Option, None, Some, Result, Ok, Err}
-use Rattle.tariff.specs.Tariffs.{em_of, phased_of, is_endless}
+use Rattle.tariff.specs.Tariffs.{em_of, phased_of, is_endless, schedule_of}
 use Rattle.tariff.specs.declared.Phase.{Phase}
+use Rattle.tariff.specs.declared.Schedule.{Schedule}
 use Rattle.tariff.specs.declared.Tariff.TheVariants.{Idle}
 use Rattle.phase_lists.specs.Lists.{Lists, phases_of, lists_in}
 use Rattle.phase_lists.specs.Tables.{no_phases, eight_of}
@@ -47,7 +48,6 @@ idle_line D S clock since =
     record {
       pulse = D;
       spacing = S;
-      count = 0;
       serial = 0;
       state =
           record {
@@ -58,7 +58,7 @@ idle_line D S clock since =
             burst = no_burst;
             counters = zero_counters None;
           };
-      phases = no_phases;
+      schedule = schedule_of no_phases 0;
     }
 
 -- with no earlier front its rules ask nothing
@@ -82,10 +82,9 @@ with_serial l n =
     record {
       pulse = l.pulse;
       spacing = l.spacing;
-      count = l.count;
       serial = n;
       state = l.state;
-      phases = l.phases;
+      schedule = l.schedule;
     }
 
 -- an accepted command adds 1 to the serial of the line that it leaves; k burst pulses are cancelled
@@ -108,10 +107,9 @@ with_state l s =
     record {
       pulse = l.pulse;
       spacing = l.spacing;
-      count = l.count;
       serial = l.serial;
       state = s;
-      phases = l.phases;
+      schedule = l.schedule;
     }
 
 -- a fresh em zeroes the counters
@@ -120,24 +118,26 @@ with_em l C P =
     let s = l.state in
     with_state l (with_tariff s (origin_wait l.spacing s) (em_of C P) (zero_counters s.counters.rp))
 
--- n phases stand at the front of the eight
-abbrev pub with_phases : Line → ℕ → List Phase → Line
-with_phases l n eight =
+-- the phases of a list, at the front of the eight
+abbrev pub scheduled : List Phase → Schedule
+scheduled ps = schedule_of (eight_of ps) (length ps)
+
+abbrev pub with_schedule : Line → Schedule → Line
+with_schedule l ps =
     record {
       pulse = l.pulse;
       spacing = l.spacing;
-      count = n;
       serial = l.serial;
-      state = with_tariff l.state (origin_wait l.spacing l.state) (phased_of eight) l.state.counters;
-      phases = eight;
+      state = with_tariff l.state (origin_wait l.spacing l.state) (phased_of ps.phases) l.state.counters;
+      schedule = ps;
     }
 
-unfoldable pub tariff_changed : TariffPart → ℕ → List Phase → Line → Line
-tariff_changed NoTariff n eight l = with_state l (stopped l.state)
-tariff_changed KeepTariff n eight l = l
-tariff_changed (Rate P) n eight l = with_state l (with_rate l.state P)
-tariff_changed (Em C P) n eight l = with_em l C P
-tariff_changed Phased n eight l = with_phases l n eight
+unfoldable pub tariff_changed : TariffPart → Schedule → Line → Line
+tariff_changed NoTariff ps l = with_state l (stopped l.state)
+tariff_changed KeepTariff ps l = l
+tariff_changed (Rate P) ps l = with_state l (with_rate l.state P)
+tariff_changed (Em C P) ps l = with_em l C P
+tariff_changed Phased ps l = with_schedule l ps
 
 unfoldable pub burst_changed : BurstPart → Line → Line
 burst_changed NoBurst l = with_state l (with_burst l.state no_burst)
@@ -148,7 +148,7 @@ unfoldable pub describe_of : Line → TariffPart → Lists → BurstPart → Ans
 describe_of l t ls b =
     let s = l.state in
     answered_by (ruling (descriptor_causes l.spacing (is_endless s.tariff) (is_running s.burst) t ls b)) l
-    (burst_changed b (tariff_changed t (length (phases_of ls)) (eight_of (phases_of ls)) l))
+    (burst_changed b (tariff_changed t (scheduled (phases_of ls)) l))
     (cancelled_by b s.burst.owed)
 
 -- the same with the phases in a table, as the code has them
@@ -156,7 +156,7 @@ abbrev pub described_by : Line → TariffPart → PhaseTable → BurstPart → A
 described_by l t table b =
     let s = l.state in
     answered_by (descriptor_ruling l.spacing (is_endless s.tariff) (is_running s.burst) t table b) l
-    (burst_changed b (tariff_changed t table.carry.count table.phases l))
+    (burst_changed b (tariff_changed t (schedule_of table.phases table.carry.count) l))
     (cancelled_by b s.burst.owed)
 
 -- as a text: refused where it does not read, and then where it makes no sense; else as the descriptor that it reads as
@@ -210,7 +210,7 @@ audit_of l = record { line = l; cpc = l.state.counters.cpc; pcslr = l.state.coun
 -- ---- one tick
 
 abbrev pub move_of : Line → Moved
-move_of l = moved_by l.pulse l.spacing l.phases l.count l.state
+move_of l = moved_by l.pulse l.spacing l.schedule l.state
 
 unfoldable pub tick_of : Line → Ticked
 tick_of l = record { line = with_state l (move_of l).state; tick = (move_of l).tick }

@@ -1,17 +1,17 @@
 // Descriptors: what the table of refusals makes of one, and the line and the answer after it.
 ghost use Rattle.std.specs.Prelude.{◌≡◌};
-ghost use Rattle.tariff.specs.Tariffs.{is_endless};
+ghost use Rattle.tariff.specs.Tariffs.{is_endless, schedule_of};
 ghost use Rattle.phase_lists.specs.Lists.{lists_in};
 ghost use Rattle.descriptor.specs.Rulings.{descriptor_ruling};
 ghost use Rattle.burst.specs.Bursts.{is_running};
-ghost use Rattle.line.specs.Lines.{with_em, with_phases, tariff_changed, burst_changed, described_by, describe_of, describe_text_of, read_answer, meant_by};
+ghost use Rattle.line.specs.Lines.{with_em, with_schedule, tariff_changed, burst_changed, described_by, describe_of, describe_text_of, read_answer, meant_by};
 
 use super::{Answered, Line};
 use burst::Burst;
 use descriptor::{BurstPart, Descriptor, Ruling, TariffPart};
 use phase_lists::{PhaseLists, PhaseTable};
 use state::Counters;
-use tariff::Tariff;
+use tariff::{Schedule, Tariff};
 
 impl Line {
     // The line with a fresh em, which zeroes the counters.
@@ -32,15 +32,18 @@ impl Line {
 
     // The line with a fresh phased tariff, whose phases are in the table.
     fn with_table(self, table: PhaseTable) -> Line
-        ensures { result ≡ with_phases self table.carry.count table.phases }
+        ensures { result ≡ with_schedule self (schedule_of table.phases table.carry.count) }
     {
         let wait = self.state.origin_wait(self.spacing);
         let phases = table.phases;
         let tariff = Tariff::phased(phases);
-        Line {
+        let schedule = Schedule {
             count: table.carry.count,
-            state: self.state.with_tariff(wait, tariff, self.state.counters),
             phases,
+        };
+        Line {
+            state: self.state.with_tariff(wait, tariff, self.state.counters),
+            schedule,
             ..self
         }
     }
@@ -48,7 +51,7 @@ impl Line {
     // The line with a tariff part taken, whose phases, if it is phased, are in the table.
     #[tactic(auto, unfolding(crate::specs::Lines::tariff_changed))]
     fn with_tariff_part(self, part: TariffPart, table: PhaseTable) -> Line
-        ensures { result ≡ tariff_changed part table.carry.count table.phases self }
+        ensures { result ≡ tariff_changed part (schedule_of table.phases table.carry.count) self }
     {
         match part {
             TariffPart::None => self.with_state(self.state.stopped()),

@@ -14,19 +14,17 @@ mod ticks;
 use answers::Tick;
 use descriptor::Refusal;
 use state::State;
-use tariff::Phase;
+use tariff::Schedule;
 
-// A line: pulse length and spacing, its state, and the phases of a phased tariff with their number. The serial is the
-// number of accepted commands, held at 4,294,967,295.
-// Stays: fixed memory, so that the phases are eight with a number beside them.
+// A line: pulse length and spacing, its state, and the phases of a phased tariff. The serial is the number of accepted
+// commands, held at 4,294,967,295.
 #[derive(Clone, Copy)]
 pub struct Line {
     pub pulse: u32,
     pub spacing: u32,
-    pub count: u32,
     pub serial: u32,
     pub state: State,
-    pub phases: [Phase; 8],
+    pub schedule: Schedule,
 }
 
 // A call's answer: the burst pulses cancelled, or why it was turned down.

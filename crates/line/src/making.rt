@@ -6,7 +6,7 @@ use super::{Answered, Line};
 use burst::Burst;
 use descriptor::Refusal;
 use state::{Counters, State};
-use tariff::{Phase, Tariff};
+use tariff::{Schedule, Tariff};
 
 impl Line {
     // No tariff, burst or report period, and counters and serial 0.
@@ -16,7 +16,6 @@ impl Line {
         Line {
             pulse,
             spacing,
-            count: 0,
             serial: 0,
             state: State {
                 wait: 0,
@@ -26,7 +25,7 @@ impl Line {
                 burst: Burst::none(),
                 counters: Counters::default(),
             },
-            phases: [Phase::default(); 8],
+            schedule: Schedule::default(),
         }
     }
 

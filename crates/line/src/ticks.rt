@@ -10,13 +10,7 @@ impl Line {
     pub fn moved(self) -> Moved
         ensures { result ≡ move_of self }
     {
-        ticking::moved(
-            self.pulse,
-            self.spacing,
-            self.phases,
-            self.count,
-            self.state,
-        )
+        ticking::moved(self.pulse, self.spacing, self.schedule, self.state)
     }
 
     // One tick.

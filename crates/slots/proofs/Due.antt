@@ -7,7 +7,7 @@ use native.Mathlib.Omega.{arith}
 use borrow.Table.Steps.{cases}
 use borrow.Author.Tests.{eq-eqb, ne_eqb}
 use lib.Dec.{eqb}
-use Rattle.tariff.specs.Tariffs.{phase_at}
+use Rattle.tariff.specs.Tariffs.{phase_at, schedule_of}
 use Rattle.steps.specs.Steps.{pulses_at, due_of}
 use Rattle.tariff.specs.declared.Phase.{Phase}
 use Rattle.tariff.specs.declared.Tariff.{Tariff}
@@ -25,7 +25,7 @@ use Rattle.slots.proofs.Step.{none_left, past-due}
 
 module _ (S D : ℕ) (a : List Phase) (n : ℕ) where
   -- the first slot ahead is the one that it waits for
-  pub first_slot : (t : Tariff) (w : ℕ) → Good S a n t w → slots_of a n t 0 ≡ (due_of D a n t).slot
+  pub first_slot : (t : Tariff) (w : ℕ) → Good S a n t w → slots_of a n t 0 ≡ (due_of D (schedule_of a n) t).slot
   unfolding slots_of due_of
   first_slot Idle w g = refl
   first_slot (Endless P) w g = endless-zero P
@@ -33,12 +33,12 @@ module _ (S D : ℕ) (a : List Phase) (n : ℕ) where
   first_slot (Phased i e l j) w g = phased-zero S a n i e l j g.1
   first_slot Ending w g = refl
 
-  pub due-slot : (t : Tariff) (w : ℕ) → Good S a n t w → w ≤ 1 → ahead a n t w 1 ≡ (due_of D a n t).slot
+  pub due-slot : (t : Tariff) (w : ℕ) → Good S a n t w → w ≤ 1 → ahead a n t w 1 ≡ (due_of D (schedule_of a n) t).slot
   due-slot t w g due = past-due S a n t w g due 0 ∙ first_slot t w g
 
   -- the slots after it
   due-rest : (t : Tariff) (w : ℕ) → Good S a n t w → (y : ℕ) → 1 ≤ y
-      → ahead a n (due_of D a n t).tariff (due_of D a n t).wait y ≡ slots_of a n t y
+      → ahead a n (due_of D (schedule_of a n) t).tariff (due_of D (schedule_of a n) t).wait y ≡ slots_of a n t y
   unfolding slots_of due_of
   due-rest Idle w g y l = none_left S a n Idle 0 tt refl y
   due-rest (Endless P) w g y l = endless-rest P y l
@@ -47,11 +47,11 @@ module _ (S D : ℕ) (a : List Phase) (n : ℕ) where
   due-rest Ending w g y l = none_left S a n Idle 0 tt refl y
 
   pub due-slots : (t : Tariff) (w : ℕ) → Good S a n t w → w ≤ 1 → (y : ℕ) → 1 ≤ y
-      → ahead a n (due_of D a n t).tariff (due_of D a n t).wait y ≡ ahead a n t w (suc y)
+      → ahead a n (due_of D (schedule_of a n) t).tariff (due_of D (schedule_of a n) t).wait y ≡ ahead a n t w (suc y)
   due-slots t w g due y l = due-rest t w g y l ∙ sym (past-due S a n t w g due y)
 
   pub due-ends : (t : Tariff) (w : ℕ) → Good S a n t w → w ≤ 1 → (y : ℕ) → 1 ≤ y
-      → completes_in a n D (due_of D a n t).tariff (due_of D a n t).wait y ≡ completes_in a n D t w (suc y)
+      → completes_in a n D (due_of D (schedule_of a n) t).tariff (due_of D (schedule_of a n) t).wait y ≡ completes_in a n D t w (suc y)
   unfolding completes_in due_of
   due-ends Idle w g due y l = refl
   due-ends (Endless P) w g due y l = refl
@@ -63,7 +63,7 @@ module _ (S D : ℕ) (a : List Phase) (n : ℕ) where
       rw one (ends-after S a n i e p j D g.1 y (after-slot a n i e p j _ _))
   due-ends Ending w g due y l = sym (ne_eqb (suc y) w (λ e. omega arith))
 
-  pub due_end : 1 ≤ D → (t : Tariff) (w : ℕ) → Good S a n t w → w ≤ 1 → completes_in a n D t w 1 ≡ (due_of D a n t).complete
+  pub due_end : 1 ≤ D → (t : Tariff) (w : ℕ) → Good S a n t w → w ≤ 1 → completes_in a n D t w 1 ≡ (due_of D (schedule_of a n) t).complete
   unfolding completes_in due_of
   due_end lasts Idle w g due = refl
   due_end lasts (Endless P) w g due = refl
@@ -72,7 +72,7 @@ module _ (S D : ℕ) (a : List Phase) (n : ℕ) where
   due_end lasts Ending w g due = eq-eqb 1 w (omega arith)
 
   module _ (spaced : 1 ≤ S) (lasts : Waits D) where
-    pub due-good : (t : Tariff) (w : ℕ) → Good S a n t w → Good S a n (due_of D a n t).tariff (due_of D a n t).wait
+    pub due-good : (t : Tariff) (w : ℕ) → Good S a n t w → Good S a n (due_of D (schedule_of a n) t).tariff (due_of D (schedule_of a n) t).wait
     unfolding due_of
     due-good Idle w g = tt
     due-good (Endless P) w g = omega (arith, g.1)
@@ -81,7 +81,7 @@ module _ (S D : ℕ) (a : List Phase) (n : ℕ) where
     due-good Ending w g = tt
 
     pub due-next : (t : Tariff) (w : ℕ) → Good S a n t w → w ≤ 1
-        → Next S (next_of t w) (next_of (due_of D a n t).tariff (due_of D a n t).wait) (due_of D a n t).slot
+        → Next S (next_of t w) (next_of (due_of D (schedule_of a n) t).tariff (due_of D (schedule_of a n) t).wait) (due_of D (schedule_of a n) t).slot
     unfolding due_of
     due-next Idle w g due = waits (λ e. omega arith) refl
     due-next (Endless P) w g due = pulse (omega (arith, g.0)) (λ left. g.1.far)

@@ -7,7 +7,7 @@ use native.Mathlib.Omega.{arith}
 use borrow.Author.Tests.{ltb-true, ltb-false}
 use borrow.Table.Steps.{cases}
 use lib.Dec.{eqb, ltb, eqb-suc-zero}
-use Rattle.tariff.specs.Tariffs.{phase_at}
+use Rattle.tariff.specs.Tariffs.{phase_at, schedule_of}
 use Rattle.steps.specs.Steps.{next_entry, waiting, after_phase, after_interval, after_phased}
 use Rattle.tariff.specs.declared.Phase.{Phase}
 use Rattle.tariff.specs.declared.Tariff.TheVariants.{Phased, Ending}
@@ -32,21 +32,21 @@ no_more zero c t = absurd (true≢false t)
 no_more (suc l) c t = (omega arith, ltb-false c (suc l) (rw (eqb-suc-zero l) at t))
 
 module _ (a : List Phase) (n i e l j : ℕ) (p : Phase) (m : ℕ) where
-  last-interval : m ≤ suc j → 1 ≤ l → l ≤ p.ci → AfterSlot a n i e l j p m (after_phase a n i (1000 * l - j * p.pri))
+  last-interval : m ≤ suc j → 1 ≤ l → l ≤ p.ci → AfterSlot a n i e l j p m (after_phase (schedule_of a n) i (1000 * l - j * p.pri))
   unfolding after_phase
   last-interval last some short =
       cases (ltb (i + 1) n)
       (λ t. rw t (next-phase last some short (ltb-true (i + 1) n t)))
       (λ t. rw t (no-phase last some short (ltb-false (i + 1) n t)))
 
-  last-slot : m ≤ suc j → AfterSlot a n i e l j p m (after_interval a n i e l j p)
+  last-slot : m ≤ suc j → AfterSlot a n i e l j p m (after_interval (schedule_of a n) i e l j p)
   unfolding after_interval
   last-slot last =
       cases (eqb l 0 || ltb p.ci l)
       (λ t. rw t (next-interval last (more l p.ci t)))
       (λ t. let s = no_more l p.ci t in rw t (last-interval last s.0 s.1))
 
-  pub after-slot : AfterSlot a n i e l j p m (after_phased a n i e l j p m)
+  pub after-slot : AfterSlot a n i e l j p m (after_phased (schedule_of a n) i e l j p m)
   unfolding after_phased
   after-slot =
       cases (ltb (j + 1) m)

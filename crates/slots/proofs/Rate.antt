@@ -6,7 +6,7 @@ use Prim.Native.Nat.{ℕ, ◌+◌, ◌≤◌}
 use native.Mathlib.Omega.{arith}
 use borrow.Table.Steps.{cases}
 use lib.Dec.{ltb}
-use Rattle.tariff.specs.Tariffs.{phase_at, em_of, rate_of, is_endless}
+use Rattle.tariff.specs.Tariffs.{phase_at, schedule_of, em_of, rate_of, is_endless}
 use Rattle.steps.specs.Steps.{pulses_at, after_counted, due_of, step_of}
 use Rattle.tariff.specs.declared.Phase.{Phase}
 use Rattle.tariff.specs.declared.Tariff.{Tariff}
@@ -32,7 +32,7 @@ phased-other (next-phase last some short further) = refl
 phased-other (no-phase last some short end) = refl
 
 module _ (D : ℕ) (a : List Phase) (n : ℕ) where
-  due-other : (t : Tariff) → is_endless t ≡ false → is_endless (due_of D a n t).tariff ≡ false
+  due-other : (t : Tariff) → is_endless t ≡ false → is_endless (due_of D (schedule_of a n) t).tariff ≡ false
   unfolding due_of
   due-other Idle o = refl
   due-other (Endless P) o = o
@@ -42,7 +42,7 @@ module _ (D : ℕ) (a : List Phase) (n : ℕ) where
 
   -- a tick on
   pub rate-tick : (S : ℕ) (r : Running) (t : Tariff) (w i : ℕ) → 1 ≤ S → Good S a n t w → SameRate i r t w
-      → SameRate (i + 1) r (step_of D a n t w).tariff (step_of D a n t w).wait
+      → SameRate (i + 1) r (step_of D (schedule_of a n) t w).tariff (step_of D (schedule_of a n) t w).wait
   unfolding due_of
   rate-tick S r t w i spaced g (steady {f = f} {P = P} e) =
       by-step D a n (Endless P) w (λ s. SameRate (i + 1) r s.tariff s.wait)

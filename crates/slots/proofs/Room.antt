@@ -8,8 +8,8 @@ use native.Mathlib.Omega.{arith}
 use borrow.Table.Steps.{cases}
 use borrow.Author.Tests.{eq-eqb, ne_eqb, le-leb, lt-leb}
 use lib.Dec.{leb, eqb}
-use Rattle.tariff.specs.Tariffs.{phase_at, room_of}
-use Rattle.steps.specs.Steps.{pulses_at, due_of}
+use Rattle.tariff.specs.Tariffs.{schedule_of, room_of}
+use Rattle.steps.specs.Steps.{due_of}
 use Rattle.tariff.specs.declared.Phase.{Phase}
 use Rattle.tariff.specs.declared.Tariff.{Tariff}
 use Rattle.tariff.specs.declared.Tariff.TheVariants.{Idle, Endless, Counted, Phased, Ending}
@@ -32,7 +32,7 @@ room_next S a n (Phased i e l j) w g = rw (ne_eqb w 0 (λ z. omega (arith, g.0))
 room_next S a n Ending w g = refl
 
 -- where a slot is left, it waits for one
-some-due : (D : ℕ) (a : List Phase) (n : ℕ) (t : Tariff) (w : ℕ) → 1 ≤ next_of t w → no_slot (due_of D a n t).slot ≡ false
+some-due : (D : ℕ) (a : List Phase) (n : ℕ) (t : Tariff) (w : ℕ) → 1 ≤ next_of t w → no_slot (due_of D (schedule_of a n) t).slot ≡ false
 unfolding due_of
 some-due D a n Idle w l = absurd (omega arith)
 some-due D a n (Endless P) w l = refl
@@ -55,7 +55,7 @@ module _ (S D : ℕ) (a : List Phase) (n : ℕ) (r : Running) (t : Tariff) (w i 
         least = λ v l m. at_tick v l ∙ from-before (slots_of a n t) (next_of t w) (v - i) (omega arith);
       }
     where
-      due : slot_at r (i + next_of t w) ≡ (due_of D a n t).slot
+      due : slot_at r (i + next_of t w) ≡ (due_of D (schedule_of a n) t).slot
       due =
           agree.slots (next_of t w) some ∙ from_past (slots_of a n t) (next_of t w) (next_of t w) (omega arith)
           ∙ ap (slots_of a n t) (omega arith) ∙ first_slot S D a n t w g

@@ -8,6 +8,7 @@ use native.Mathlib.Omega.{arith}
 use borrow.Table.Steps.{cases}
 use borrow.Author.Tests.{ltb-true, ltb-false}
 use lib.Dec.{ltb}
+use Rattle.tariff.specs.Tariffs.{schedule_of}
 use Rattle.steps.specs.Steps.{waiting, stepped, due_of, step_of}
 use Rattle.tariff.specs.declared.Phase.{Phase}
 use Rattle.tariff.specs.declared.Slot.{Slot}
@@ -19,8 +20,8 @@ use Rattle.slots.proofs.From.{from_past, from-none}
 use Rattle.slots.proofs.Ahead.{Waits, Good, next_of, slots_of, ahead}
 
 -- what holds of both ways holds of the tick
-pub by-step : (D : ℕ) (a : List Phase) (n : ℕ) (t : Tariff) (w : ℕ) (Q : Stepped → Type 0) → (w ≤ 1 → Q (due_of D a n t))
-    → (1 < w → Q (stepped (waiting t (w - 1)) None false)) → Q (step_of D a n t w)
+pub by-step : (D : ℕ) (a : List Phase) (n : ℕ) (t : Tariff) (w : ℕ) (Q : Stepped → Type 0) → (w ≤ 1 → Q (due_of D (schedule_of a n) t))
+    → (1 < w → Q (stepped (waiting t (w - 1)) None false)) → Q (step_of D (schedule_of a n) t w)
 unfolding step_of
 by-step D a n t w Q at-due at-wait =
     cases (ltb 1 w) (λ b. rw b (at-wait (ltb-true 1 w b))) (λ b. rw b (at-due (ltb-false 1 w b)))

@@ -3,13 +3,12 @@ ghost use Rattle.std.specs.Prelude.{◌≡◌, ◌-◌, ◌*◌, ◌<◌};
 ghost use Rattle.steps.specs.Steps.{distance_after, after_counted, after_phase, after_interval, after_phased};
 
 use super::{Waiting, intervals};
-use tariff::{Phase, Tariff};
+use tariff::{Phase, Schedule, Tariff};
 
-// Where a phased tariff with so many phases stands: before slot `pulse` of a charge interval of a phase, as in its Tariff.
+// Where a phased tariff with these phases stands: before slot `pulse` of a charge interval of a phase, as in its Tariff.
 #[derive(Clone, Copy)]
 pub(crate) struct Position {
-    pub phases: [Phase; 8],
-    pub count: u32,
+    pub schedule: Schedule,
     pub phase: u32,
     pub entry: u64,
     pub left: u32,
@@ -55,13 +54,13 @@ impl Position {
     // After the last interval of the phase, which ends in `wait` ticks: the next phase, if there is one.
     #[tactic(auto, unfolding(crate::specs::Steps::after_phase))]
     fn after_phase(self, wait: u64) -> Waiting
-        ensures { result ≡ after_phase self.phases self.count self.phase wait }
+        ensures { result ≡ after_phase self.schedule self.phase wait }
     {
-        if u64::from(self.phase) + 1 < u64::from(self.count) {
+        if u64::from(self.phase) + 1 < u64::from(self.schedule.count) {
             let next = Tariff::Phased {
                 phase: self.phase + 1,
                 entry: 0,
-                left: tariff::phase_at(self.phases, self.phase + 1).pd,
+                left: self.schedule.at(self.phase + 1).pd,
                 pulse: 0,
             };
             Waiting::new(next, wait)
@@ -73,7 +72,7 @@ impl Position {
     // After the last slot of an interval of the phase, which is p: the next interval of the phase, if there is one.
     #[tactic(auto, unfolding(crate::specs::Steps::after_interval))]
     fn after_interval(self, p: Phase) -> Waiting
-        ensures { result ≡ after_interval self.phases self.count self.phase self.entry self.left self.pulse p }
+        ensures { result ≡ after_interval self.schedule self.phase self.entry self.left self.pulse p }
     {
         // An endless phase goes on, and so does one with seconds left after this interval.
         if self.left == 0 || p.ci < self.left {
@@ -92,7 +91,7 @@ impl Position {
     // After a slot of an interval of m pulses of the phase, which is p: the next slot of the interval, if there is one.
     #[tactic(auto, unfolding(crate::specs::Steps::after_phased))]
     pub(crate) fn after_slot(self, p: Phase, m: u32) -> Waiting
-        ensures { result ≡ after_phased self.phases self.count self.phase self.entry self.left self.pulse p m }
+        ensures { result ≡ after_phased self.schedule self.phase self.entry self.left self.pulse p m }
     {
         if u64::from(self.pulse) + 1 < u64::from(m) {
             let next = Tariff::Phased {

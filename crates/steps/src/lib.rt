@@ -10,7 +10,7 @@ mod after;
 mod intervals;
 
 use after::Position;
-use tariff::{Phase, Slot, Tariff};
+use tariff::{Schedule, Slot, Tariff};
 
 // A tariff, and the ticks to its next slot or to its completion.
 #[derive(Clone, Copy, PartialEq, Eq, Debug)]
@@ -60,18 +60,18 @@ impl Position {
     // What is due where it stands. The length of a pulse, 0 here, makes no difference to a phased tariff.
     #[tactic(auto, unfolding(crate::specs::Steps::due_of))]
     fn due(self) -> Stepped
-        ensures { result ≡ due_of 0 self.phases self.count (Phased self.phase self.entry self.left self.pulse) }
+        ensures { result ≡ due_of 0 self.schedule (Phased self.phase self.entry self.left self.pulse) }
     {
-        let p = tariff::phase_at(self.phases, self.phase);
+        let p = self.schedule.at(self.phase);
         let m = intervals::pulses_at(p, self.entry);
         self.after_slot(p, m).stepped(Some(slot_of(m)), false)
     }
 }
 
-// What is due when the wait is over, on a line with so many phases, whose pulses last `pulse` ticks.
+// What is due when the wait is over, on a line with these phases, whose pulses last `pulse` ticks.
 #[tactic(auto, unfolding(crate::specs::Steps::due_of))]
-fn due(tariff: Tariff, pulse: u32, phases: [Phase; 8], count: u32) -> Stepped
-    ensures { result ≡ due_of pulse phases count tariff }
+fn due(tariff: Tariff, pulse: u32, schedule: Schedule) -> Stepped
+    ensures { result ≡ due_of pulse schedule tariff }
 {
     match tariff {
         Tariff::Idle => Waiting::new(tariff, 0).stepped(None, false),
@@ -79,18 +79,17 @@ fn due(tariff: Tariff, pulse: u32, phases: [Phase; 8], count: u32) -> Stepped
             Waiting::new(tariff, u64::from(interval)).stepped(Some(Slot::Pulse), false)
         }
         Tariff::Counted {
-            count: slots,
+            count,
             period,
             next,
-        } => after::after_counted(pulse, slots, period, next).stepped(Some(Slot::Pulse), false),
+        } => after::after_counted(pulse, count, period, next).stepped(Some(Slot::Pulse), false),
         Tariff::Phased {
             phase,
             entry,
             left,
             pulse,
         } => Position {
-            phases,
-            count,
+            schedule,
             phase,
             entry,
             left,
@@ -103,12 +102,12 @@ fn due(tariff: Tariff, pulse: u32, phases: [Phase; 8], count: u32) -> Stepped
 
 // One tick of a tariff: one less to wait, or what is due.
 #[tactic(auto, unfolding(crate::specs::Steps::step_of))]
-pub fn step(tariff: Tariff, wait: u64, pulse: u32, phases: [Phase; 8], count: u32) -> Stepped
-    ensures { result ≡ step_of pulse phases count tariff wait }
+pub fn step(tariff: Tariff, wait: u64, pulse: u32, schedule: Schedule) -> Stepped
+    ensures { result ≡ step_of pulse schedule tariff wait }
 {
     if 1 < wait {
         Waiting::new(tariff, wait - 1).stepped(None, false)
     } else {
-        due(tariff, pulse, phases, count)
+        due(tariff, pulse, schedule)
     }
 }

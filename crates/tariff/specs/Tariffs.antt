@@ -1,6 +1,7 @@
 -- A tariff where it stands, and the tariffs that a descriptor sets: what the code computes.
 use Rattle.std.specs.Prelude.{Bool, true, false, cond, List, ℕ, zero, suc, leb, ltb, get_or}
 use Rattle.tariff.specs.declared.Phase.{Phase}
+use Rattle.tariff.specs.declared.Schedule.{Schedule}
 use Rattle.tariff.specs.declared.Tariff.{Tariff}
 use Rattle.tariff.specs.declared.Tariff.TheVariants.{Idle, Endless, Counted, Phased, Ending}
 
@@ -11,6 +12,10 @@ no_phase = record { pri = 0; pcx = 0; repx = 0; pcn = 0; repn = 0; ci = 0; pd = 
 -- the phase at a place of the array of eight
 abbrev pub phase_at : List Phase → ℕ → Phase
 phase_at ps i = cond (ltb i 8) (get_or ps i no_phase) no_phase
+
+-- so many phases, at the front of the array of eight
+abbrev pub schedule_of : List Phase → ℕ → Schedule
+schedule_of ps n = record { count = n; phases = ps }
 
 -- a slot is left
 abbrev pub slot_left : Tariff → Bool

@@ -5,8 +5,6 @@ mod phases;
 mod room;
 mod setting;
 
-pub use phases::phase_at;
-
 // A phase of a phased tariff, as a descriptor gives it.
 #[derive(Clone, Copy, PartialEq, Eq, Debug, Default)]
 pub struct Phase {
@@ -17,6 +15,14 @@ pub struct Phase {
     pub repn: u32,
     pub ci: u32,
     pub pd: u32,
+}
+
+// The phases of a phased tariff: so many, at the front of an array of eight.
+// Stays: fixed memory, so that the phases are eight with a number beside them.
+#[derive(Clone, Copy, PartialEq, Eq, Debug, Default)]
+pub struct Schedule {
+    pub count: u32,
+    pub phases: [Phase; 8],
 }
 
 // A slot of a tariff at a tick.

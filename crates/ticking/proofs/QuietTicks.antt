@@ -1,12 +1,12 @@
 -- On a quiet line a tick only moves time on.
-use Rattle.std.proofs.Common.{◌≡◌, ℕ, ◌-◌, ◌≤◌, Bool, true, false, not, ◌&&◌, ◌||◌, ltb, leb, List, None, Some, refl, sym, ◌∙◌, ap, arith, ltb-false, eqb-true}
+use Rattle.std.proofs.Common.{◌≡◌, ℕ, ◌-◌, ◌≤◌, Bool, true, false, not, ◌&&◌, ◌||◌, ltb, leb, None, Some, refl, sym, ◌∙◌, ap, arith, ltb-false, eqb-true}
 use mathlib.Core.Bool.{and-eq-true_iff, false≢true}
 use borrow.Author.Tests.{not-true}
 use borrow.Table.Steps.{cases}
 use Rattle.answers.specs.Fronts.{silent}
 use Rattle.tariff.specs.Tariffs.{room_of, is_idle}
 use Rattle.steps.specs.Steps.{waiting, stepped, due_of, step_of}
-use Rattle.tariff.specs.declared.Phase.{Phase}
+use Rattle.tariff.specs.declared.Schedule.{Schedule}
 use Rattle.tariff.specs.declared.Tariff.{Tariff}
 use Rattle.tariff.specs.declared.Tariff.TheVariants.{Idle, Endless, Counted, Phased, Ending}
 use Rattle.burst.specs.Bursts.{is_running, held_more, older_of, completes_of, aged_of, is_due, burst_quiet}
@@ -42,8 +42,8 @@ quiet-parts D S s h =
     record { waits = a.0; runs = c.0; rests = c.1; holds = not-true _ b.0 }
 
 -- the tariff waits on, the burst runs on, and no burst pulse may start
-module _ (D : ℕ) (ps : List Phase) (n : ℕ) where
-  idle-waits : (t : Tariff) (w : ℕ) → w ≤ 1 → is_idle t ≡ true → due_of D ps n t ≡ stepped (waiting t (w - 1)) None false
+module _ (D : ℕ) (ps : Schedule) where
+  idle-waits : (t : Tariff) (w : ℕ) → w ≤ 1 → is_idle t ≡ true → due_of D ps t ≡ stepped (waiting t (w - 1)) None false
   unfolding due_of
   idle-waits Idle w l h = ap (λ (x : ℕ). stepped (waiting Idle x) None false) (omega arith)
   idle-waits (Endless P) w l h = absurd (false≢true h)
@@ -51,7 +51,7 @@ module _ (D : ℕ) (ps : List Phase) (n : ℕ) where
   idle-waits (Phased i e s j) w l h = absurd (false≢true h)
   idle-waits Ending w l h = absurd (false≢true h)
 
-  step_waits : (t : Tariff) (w : ℕ) → (ltb 1 w || is_idle t) ≡ true → step_of D ps n t w ≡ stepped (waiting t (w - 1)) None false
+  step_waits : (t : Tariff) (w : ℕ) → (ltb 1 w || is_idle t) ≡ true → step_of D ps t w ≡ stepped (waiting t (w - 1)) None false
   unfolding step_of
   step_waits t w h = cases (ltb 1 w) (λ e. rw e) (λ e. rw e (idle-waits t w (ltb-false 1 w e) (rw e at h)))
 
@@ -65,10 +65,10 @@ no_more true true false h = refl
 no_more true false c h = refl
 no_more false b c h = refl
 
-module _ (D S : ℕ) (ps : List Phase) (n : ℕ) (s : State) where
-  pub quiet_moves : quiet_of D S s ≡ true → moved_by D S ps n s ≡ record { state = waited_of S s; tick = silent; event = false }
+module _ (D S : ℕ) (ps : Schedule) (s : State) where
+  pub quiet_moves : quiet_of D S s ≡ true → moved_by D S ps s ≡ record { state = waited_of S s; tick = silent; event = false }
   unfolding moved_by waited_of count_by since_front burst_after happens
   quiet_moves h =
       let q : Quiet D S s = quiet-parts D S s h in
       let still = no_more (is_due (older_of s.burst)) (leb S (held_more S s.since)) (room_of S s.tariff (s.wait - 1)) q.rests in
-      rw (step_waits D ps n s.tariff s.wait q.waits, burst_ages D s.burst q.runs, still, q.holds)
+      rw (step_waits D ps s.tariff s.wait q.waits, burst_ages D s.burst q.runs, still, q.holds)

@@ -1,9 +1,9 @@
 -- One tick of a line: what the code computes.
-use Rattle.std.specs.Prelude.{ℕ, ◌+◌, ◌%◌, ◌^◌, Bool, true, not, ◌&&◌, ◌||◌, List, nat_le, Option, None, Some}
+use Rattle.std.specs.Prelude.{ℕ, ◌+◌, ◌%◌, ◌^◌, Bool, true, not, ◌&&◌, ◌||◌, nat_le, Option, None, Some}
 use Rattle.answers.specs.Fronts.{if_front, if_burst}
 use Rattle.answers.specs.declared.Front.{Front}
 use Rattle.tariff.specs.Tariffs.{room_of}
-use Rattle.tariff.specs.declared.Phase.{Phase}
+use Rattle.tariff.specs.declared.Schedule.{Schedule}
 use Rattle.tariff.specs.declared.Slot.{Slot}
 use Rattle.steps.specs.Steps.{step_of}
 use Rattle.burst.specs.Bursts.{held_more, aged_of, is_due, begun_of}
@@ -25,9 +25,9 @@ unfoldable pub happens : Option Slot → Option Front → Bool → Bool → Bool
 happens s f complete ended = elim s [ None ↦ if_front f true (complete || ended) | Some slot ↦ true ]
 
 -- the clock goes up; what is over ends; a slot due now, or else a burst pulse, begins; counters and report
-unfoldable pub moved_by : ℕ → ℕ → List Phase → ℕ → State → Moved
-moved_by D S ps n s =
-    let t = step_of D ps n s.tariff s.wait in
+unfoldable pub moved_by : ℕ → ℕ → Schedule → State → Moved
+moved_by D S ps s =
+    let t = step_of D ps s.tariff s.wait in
     let b = aged_of D s.burst in
     let since = held_more S s.since in
     let may = is_due b.burst && (nat_le S since && room_of S t.tariff t.wait) in

@@ -9,7 +9,7 @@ ghost use Rattle.ticking.specs.Moves.{since_front, burst_after, happens, moved_b
 use answers::{Front, Tick};
 use burst::Burst;
 use state::{Moved, State};
-use tariff::{Phase, Slot};
+use tariff::{Schedule, Slot};
 
 // A slot due now begins its pulse, or nothing if it is empty; where none is due, a burst pulse may begin.
 fn front_at(slot: Option<Slot>, burst: bool) -> Option<Front>
@@ -57,14 +57,14 @@ fn has_event(slot: Option<Slot>, front: Option<Front>, complete: bool, ended: bo
     slot.is_some() || front.is_some() || complete || ended
 }
 
-// One tick, on a line of this pulse length and spacing and with so many phases: the clock goes up, what is over ends, a
+// One tick, on a line of this pulse length and spacing and with these phases: the clock goes up, what is over ends, a
 // slot due now, or else a burst pulse, begins, and is counted.
 #[tactic(auto, unfolding(crate::specs::Moves::moved_by))]
-pub fn moved(pulse: u32, spacing: u32, phases: [Phase; 8], count: u32, state: State) -> Moved
-    ensures { result ≡ moved_by pulse spacing phases count state }
+pub fn moved(pulse: u32, spacing: u32, schedule: Schedule, state: State) -> Moved
+    ensures { result ≡ moved_by pulse spacing schedule state }
 {
     let since = burst::held_more(spacing, state.since);
-    let t = steps::step(state.tariff, state.wait, pulse, phases, count);
+    let t = steps::step(state.tariff, state.wait, pulse, schedule);
     let b = state.burst.aged(pulse);
     let may = b.burst.is_due() && spacing <= since && t.tariff.room(t.wait, spacing);
     let front = front_at(t.slot, may);

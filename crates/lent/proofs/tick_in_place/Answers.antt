@@ -9,7 +9,7 @@ use Rattle.line.specs.declared.Line.{Line}
 use Rattle.lent.proofs.tick_in_place.Goals as goal
 
 quiet-move : (l : Line) → quiet_of l.pulse l.spacing l.state ≡ true → move_of l ≡ record { state = waited_of l.spacing l.state; tick = silent; event = false }
-quiet-move l h = quiet_moves l.pulse l.spacing l.phases l.count l.state h
+quiet-move l h = quiet_moves l.pulse l.spacing l.schedule l.state h
 
 pub returns-then-is_quiet-clause-told : goal.returns-then-is_quiet-clause-told
 unfolding tick_of
