@@ -1,6 +1,7 @@
 -- The text of a card's line lies within the line, and it is what stands from one of its words on.
 use Rattle.std.proofs.Common.{◌≡◌, refl, sym, ap, ◌∙◌, ℕ, zero, suc, ◌+◌, ◌-◌, ◌≤◌, Bool, true, false, List, [], ◌∷◌, length, drop, drop-drop, arith}
 use Rattle.std.specs.Prelude.{Option, Some, None, if◌then◌else◌}
+use Rattle.arrayvec.specs.ArrayVec.{ArrayVec}
 use Rattle.script.specs.Words.{same, words_of}
 use Rattle.script.specs.Numbers.{number_of}
 use Rattle.script.specs.Runs.{ends_run, past_run, past_blanks, past_first}
@@ -9,7 +10,6 @@ use Rattle.script.specs.Commands.{configure, period, describe, hook, run}
 use Rattle.script.specs.Cards.{of_row, of_place, mapped, all, is_text, given, commit, other, placed, at_place, grouped, group, card_command, past_words, start_of, card_command_of}
 use Rattle.script.specs.declared.Command.{Command}
 use Rattle.script.specs.declared.Command.TheVariants.{Configure, Period, NoPeriod, Describe, OnHook, Run}
-use Rattle.script.specs.declared.Places.{Places}
 use Rattle.script.specs.declared.Giving.{Giving}
 use Rattle.script.specs.declared.Giving.TheVariants.{Take, Ask, Commit}
 use Rattle.script.specs.declared.CardCommand.{CardCommand}
@@ -127,7 +127,7 @@ module _ (start : ℕ → ℕ) (n : ℕ) (within : (k : ℕ) → start k ≤ n) 
 group-begun : (ws : List (List ℕ)) (n : ℕ) → begun (group ws) ≤ n
 group-begun ws n = one (grouped ws)
   where
-    one : (p : Parsed (ℕ × Places)) → begun (after p (λ g. give (Group g.0))) ≤ n
+    one : (p : Parsed (ℕ × ArrayVec ℕ)) → begun (after p (λ g. give (Group g.0))) ≤ n
     one None = omega arith
     one (Some (g, vs)) = omega arith
 

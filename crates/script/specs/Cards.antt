@@ -1,13 +1,13 @@
 -- The lines that `card` reads.
-use Rattle.std.specs.Prelude.{ℕ, zero, suc, ◌-◌, Bool, List, [], ◌∷◌, ◌++◌, length, take, replicate}
+use Rattle.std.specs.Prelude.{ℕ, zero, suc, ◌-◌, Bool, List, [], ◌∷◌, length, take}
 use Rattle.std.specs.Prelude.{Option, Some, None, unwrap_or, if◌then◌else◌}
+use Rattle.arrayvec.specs.ArrayVec.{ArrayVec}
 use Rattle.script.specs.Words.{same, words_of}
 use Rattle.script.specs.Runs.{past_blanks, past_first}
 use Rattle.script.specs.Readers.{Reader, ◌>>=◌, give, valued, ◌<|>◌, word, number, lookup, choice, no_word, whole}
 use Rattle.script.specs.Commands.{configure, period, describe, hook, run}
 use Rattle.script.specs.declared.Command.{Command}
 use Rattle.script.specs.declared.Command.TheVariants.{Configure, Period, NoPeriod, Describe, OnHook, Run}
-use Rattle.script.specs.declared.Places.{Places}
 use Rattle.script.specs.declared.Giving.{Giving}
 use Rattle.script.specs.declared.Giving.TheVariants.{Take, Ask, Commit}
 use Rattle.script.specs.declared.CardCommand.{CardCommand}
@@ -87,12 +87,12 @@ numbers (suc k) = unless [] (do
   ns ← numbers k
   give (n ∷ ns))
 
--- the places of a group, and the rest of the list filled up with 0
-abbrev pub places_of : List ℕ → Places
-places_of ps = record { count = length ps; list = ps ++ replicate (64 - length ps) 0 }
+-- the places of a group
+abbrev pub places_of : List ℕ → ArrayVec ℕ
+places_of ps = record { items = ps }
 
 -- what follows `group`: P, and none to 64 places
-abbrev pub grouped : Reader (ℕ × Places)
+abbrev pub grouped : Reader (ℕ × ArrayVec ℕ)
 grouped = do
   p ← number
   ps ← numbers 64
@@ -132,12 +132,12 @@ abbrev pub card_command_of : List ℕ → Option CardCommand
 card_command_of l = whole (card_command (start_of l (past_words 2 l)) (words_of l))
 
 -- the places of a group, past the line's first word
-abbrev pub places : Reader Places
+abbrev pub places : Reader (ArrayVec ℕ)
 places = do
   w ← word
   g ← grouped
   give g.1
 
 -- the places of a line of a group; none where a line is not read so
-abbrev pub places_in : List ℕ → Places
+abbrev pub places_in : List ℕ → ArrayVec ℕ
 places_in l = unwrap_or (whole (places (words_of l))) (places_of [])

@@ -13,16 +13,14 @@ fn next_places(line: &[u8]) -> Option<((u32, Places), &[u8])>
     ensures { told result ≡ grouped (words_of line.now) }
 {
     let (interval, mut rest) = next_number(line)?;
-    let mut list = [0; 64];
-    let mut count = 0;
-    // Stays: the list's room or the line's end stops it; a `for` over the list needs a count and a break, and is no plainer.
-    while count < 64 && !ended(rest) {
+    let mut places = Places::new();
+    // Stays: the room or the line's end stops it; a `for` over the room needs a break, and is no plainer.
+    while !places.is_full() && !ended(rest) {
         let (place, past) = next_number(rest)?;
-        list[count] = place;
-        count += 1;
+        places.push(place);
         rest = past;
     }
-    Some(((interval, Places { count, list }), rest))
+    Some(((interval, places), rest))
 }
 
 // Reads what follows `group`: P, and none to 64 places.
@@ -40,9 +38,6 @@ pub fn read_places(line: &[u8]) -> Places
     let (_, line) = next_word(line);
     match whole(next_places(line)) {
         Some((_, places)) => places,
-        None => Places {
-            count: 0,
-            list: [0; 64],
-        },
+        None => Places::new(),
     }
 }

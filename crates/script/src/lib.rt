@@ -1,8 +1,7 @@
 // The languages of the programs `meter` and `card`: what each line of their input asks.
 #![tactic(auto)]
 
-ghost use Rattle.std.specs.Prelude.{◌≡◌, take};
-
+use arrayvec::ArrayVec;
 use descriptor::{BurstPart, Hook, TariffPart};
 
 mod card_lines;
@@ -39,22 +38,8 @@ pub enum Command {
     Run(u32),
 }
 
-// The places of a group: the first `count` of the list, whose others are 0.
-// Stays: fixed memory. A `Vec` could fail, which `read_places` cannot, and a ghost field would ask a proof of each value.
-#[derive(Clone, Copy, PartialEq, Eq, Debug)]
-pub struct Places {
-    pub count: usize,
-    pub list: [u32; 64],
-}
-
-impl Places {
-    // The places themselves.
-    pub fn as_slice(&self) -> &[u32]
-        ensures { result.now ≡ take self.now.count self.now.list }
-    {
-        &self.list[..self.count.min(self.list.len())]
-    }
-}
+// The places of a group.
+pub type Places = ArrayVec<u32, 64>;
 
 // How a descriptor is given to a line: to be taken, to be asked only, or to be committed with the ticket of an ask.
 #[derive(Clone, Copy, PartialEq, Eq, Debug)]
