@@ -1,6 +1,6 @@
 -- What is noted of a text, piece by piece: faults, and the values of each name.
-use Rattle.std.specs.Prelude.{ℕ, ◌+◌, Bool, true, false, cond, not, ◌||◌, List, [], ◌∷◌, eqb, ltb, get_or, set}
-use Rattle.std.specs.Prelude.{replicate, min, take, Option, Some, None}
+use Rattle.std.specs.Prelude.{ℕ, Bool, true, false, cond, if◌then◌else◌, not, ◌||◌, List, [], ◌∷◌, ◌++◌, length}
+use Rattle.std.specs.Prelude.{eqb, ltb, nat_lt, get_or, set, replicate, Option, Some, None}
 use Rattle.grammar.specs.Grammar.{bytes}
 use Rattle.scanner.specs.Codes.{code_of}
 use Rattle.grammar.specs.Meaning.{Known, ◌↣◌, unknown, known_signals, items_of, keep_slot, is_list}
@@ -8,7 +8,6 @@ use Rattle.scanner.specs.declared.places.Place.{Place}
 use Rattle.scanner.specs.declared.places.Place.TheVariants.{ToName, ToValue}
 use Rattle.scanner.specs.declared.Token.{Token}
 use Rattle.scanner.specs.declared.Token.TheVariants.{Name, Number, Ka, From}
-use Rattle.notes.specs.declared.values.Values.{Values}
 use Rattle.notes.specs.declared.Notes.{Notes}
 
 -- ---- names
@@ -27,29 +26,26 @@ item_slot s c = slot_in (items_of s) c
 -- ---- notes
 
 -- of a name that was not given
-abbrev pub no_values : Values
-no_values = record { count = 0; items = replicate 9 0 }
+abbrev pub no_values : List ℕ
+no_values = []
 
 -- a value more: past nine it is left out
-abbrev pub pushed : Values → ℕ → Values
-pushed vs v = cond (ltb vs.count 9) (record { count = vs.count + 1; items = set vs.items vs.count v }) vs
+abbrev pub pushed : List ℕ → ℕ → List ℕ
+pushed vs v = if nat_lt (length vs) 9 then vs ++ (v ∷ []) else vs
 
--- those that are kept
-abbrev pub kept : Values → List ℕ
-kept vs = take (min vs.count 9) vs.items
-
-abbrev pub values_at : List Values → ℕ → Values
+-- those that are kept of a slot
+abbrev pub values_at : List (List ℕ) → ℕ → List ℕ
 values_at l s = get_or l s no_values
 
 abbrev pub no_notes : Notes
 no_notes = record { bad = false; signal = unknown; slot = unknown; values = replicate 18 no_values }
 
-abbrev pub count_in : List Values → ℕ → ℕ
-count_in l s = cond (ltb s 18) (values_at l s).count 0
+abbrev pub count_in : List (List ℕ) → ℕ → ℕ
+count_in l s = if nat_lt s 18 then length (values_at l s) else 0
 
 -- shut, or it would be written out wherever it stands
-unfoldable pub has_in : List Values → ℕ → Bool
-has_in l s = ltb 0 (count_in l s)
+unfoldable pub has_in : List (List ℕ) → ℕ → Bool
+has_in l s = nat_lt 0 (count_in l s)
 
 -- with a fault, if there is one
 abbrev pub marked_of : Notes → Bool → Notes

@@ -12,7 +12,7 @@ use scanner::{Place, Token};
 pub use values::Values;
 
 // Whether a fault was met; the slots of the signal and of the name that is being read; the values of each of the 18 slots.
-#[derive(Clone, Copy)]
+#[derive(Drop)]
 pub struct Notes {
     pub bad: bool,
     pub signal: usize,
@@ -22,6 +22,7 @@ pub struct Notes {
 
 impl Notes {
     // Those of no text yet.
+    #[tactic(auto, using(crate::proofs::NoValues::each_none))]
     pub fn none() -> Notes
         ensures { result ≡ no_notes }
     {
@@ -29,7 +30,7 @@ impl Notes {
             bad: false,
             signal: slots::UNKNOWN,
             slot: slots::UNKNOWN,
-            values: [Values::none(); 18],
+            values: Default::default(),
         }
     }
 
@@ -38,7 +39,7 @@ impl Notes {
     pub fn has(&self, slot: usize) -> bool
         ensures { result ≡ has_in self.now.values slot }
     {
-        slot < 18 && self.values[slot].count > 0
+        slot < 18 && !self.values[slot].as_slice().is_empty()
     }
 
     // Notes a fault, if there is one.

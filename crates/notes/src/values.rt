@@ -1,46 +1,56 @@
 // The values of a name, as far as they are kept.
-ghost use Rattle.std.specs.Prelude.{◌≡◌};
+ghost use Rattle.std.specs.Prelude.{◌≡◌, ◌≤◌, length};
 ghost use Rattle.grammar.specs.Meaning.{first_or};
-ghost use Rattle.notes.specs.Noting.{no_values, pushed, kept};
+ghost use Rattle.notes.specs.Noting.{no_values, pushed};
 
-// How many values a name has, of which nine are counted, and nine places for them.
-// Stays: fixed memory, so that a text can be read without a failure for want of it.
-#[derive(Clone, Copy)]
+use arrayvec::ArrayVec;
+use std::marker::Model;
+
+// The first nine values that a name has. Their place is fixed, so that no text fails for want of memory.
+#[derive(Drop)]
 pub struct Values {
-    pub count: usize,
-    pub items: [u32; 9],
+    items: ArrayVec<u32, 9>,
+}
+
+impl Model for Values {
+    ghost use Rattle.std.specs.Prelude.{ℕ, List};
+
+    ghost Value = { List ℕ };
+
+    ghost view = { λ v. v.items.items };
+}
+
+impl Default for Values {
+    ghost is_default = { λ v. v ≡ no_values };
+
+    fn default() -> Self {
+        Values {
+            items: ArrayVec::new(),
+        }
+    }
 }
 
 impl Values {
-    pub(crate) fn none() -> Values
-        ensures { result ≡ no_values }
-    {
-        Values {
-            count: 0,
-            items: [0; 9],
-        }
-    }
-
     // One value more. Past nine it is left out.
     pub(crate) fn push(&mut self, v: u32)
         ensures { self.new ≡ pushed self.old v }
     {
-        if self.count < 9 {
-            self.items[self.count] = v;
-            self.count += 1;
+        if !self.items.is_full() {
+            self.items.push(v);
         }
     }
 
     // Those that are kept.
     pub fn as_slice(&self) -> &[u32]
-        ensures { result.now ≡ kept self.now }
+        ensures value { result.now ≡ self.now }
+        ensures fits { length result.now ≤ 9 }
     {
-        &self.items[..self.count.min(9)]
+        self.items.as_slice()
     }
 
     // The first of them, or a default.
     pub fn first_or(&self, default: u32) -> u32
-        ensures { result ≡ first_or default (kept self.now) }
+        ensures { result ≡ first_or default self.now }
     {
         self.as_slice().first().copied().unwrap_or(default)
     }

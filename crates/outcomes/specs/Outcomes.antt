@@ -1,29 +1,24 @@
 -- What a whole text amounts to, by its notes: a refusal, or its parts with nine values at most of each phase list.
-use Rattle.std.specs.Prelude.{ℕ, Bool, ◌||◌, List, Result, Ok, Err, if◌then◌else◌}
+use Rattle.std.specs.Prelude.{Bool, ◌||◌, Result, Ok, Err, if◌then◌else◌}
 use Rattle.phase_lists.specs.Lists.{Lists}
 use Rattle.descriptor.specs.declared.Refusal.{Refusal}
 use Rattle.descriptor.specs.declared.Refusal.TheVariants.{Grammar, Content}
 use Rattle.grammar.specs.Meaning.{is_incomplete, tariff_by, burst_by, lists_by}
-use Rattle.notes.specs.Noting.{has_in, kept, values_at}
-use Rattle.notes.specs.declared.values.Values.{Values}
+use Rattle.notes.specs.Noting.{has_in, values_at}
 use Rattle.notes.specs.declared.Notes.{Notes}
 use Rattle.outcomes.specs.declared.Reading.{Reading}
 
--- the values that are kept of a slot
-abbrev pub kept_of : List Values → ℕ → List ℕ
-kept_of l s = kept (values_at l s)
-
 -- the seven phase lists, with what is kept of each
 abbrev pub lists_in : Reading → Lists
-lists_in r = lists_by (kept_of r.values)
+lists_in r = lists_by (values_at r.values)
 
 -- of a text that the grammar has: a refusal where a name or a value is wrong, or else the parts
 unfoldable pub outcome_of : Notes → Result Reading Refusal
 outcome_of n =
     if n.bad || is_incomplete (has_in n.values) then Err Content
     else Ok (record {
-      tariff = tariff_by (has_in n.values) (kept_of n.values);
-      burst = burst_by (has_in n.values) (kept_of n.values);
+      tariff = tariff_by (has_in n.values) (values_at n.values);
+      burst = burst_by (has_in n.values) (values_at n.values);
       values = n.values;
     })
 

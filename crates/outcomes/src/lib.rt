@@ -4,8 +4,8 @@
 ghost use Rattle.std.specs.Prelude.{◌≡◌};
 ghost use Rattle.descriptor.specs.Rulings.{table_for};
 ghost use Rattle.grammar.specs.Meaning.{has_lists, is_incomplete, tariff_by, burst_by};
-ghost use Rattle.notes.specs.Noting.{has_in};
-ghost use Rattle.outcomes.specs.Outcomes.{kept_of, lists_in, answer_of};
+ghost use Rattle.notes.specs.Noting.{has_in, values_at};
+ghost use Rattle.outcomes.specs.Outcomes.{lists_in, answer_of};
 
 use descriptor::{BurstPart, Refusal, TariffPart};
 use notes::Notes;
@@ -14,7 +14,7 @@ use phase_lists::{PhaseLists, PhaseTable};
 
 // The parts of a descriptor that was read, and what is kept of the values of each name, by its slot. The values of the
 // seven phase lists are those of a phased tariff.
-#[derive(Clone, Copy)]
+#[derive(Drop)]
 pub struct Reading {
     pub tariff: TariffPart,
     pub burst: BurstPart,
@@ -39,7 +39,7 @@ fn is_incomplete(notes: &Notes) -> bool
 
 // The tariff part: em with KA is a rate, or keep where pc is above 0.
 fn tariff(notes: &Notes) -> TariffPart
-    ensures { result ≡ tariff_by (has_in notes.now.values) (kept_of notes.now.values) }
+    ensures { result ≡ tariff_by (has_in notes.now.values) (values_at notes.now.values) }
 {
     let period = notes.values[slots::EM_PRI].first_or(0);
     let count = notes.values[slots::EM_PC].first_or(0);
@@ -63,7 +63,7 @@ fn tariff(notes: &Notes) -> TariffPart
 
 // The burst part.
 fn burst(notes: &Notes) -> BurstPart
-    ensures { result ≡ burst_by (has_in notes.now.values) (kept_of notes.now.values) }
+    ensures { result ≡ burst_by (has_in notes.now.values) (values_at notes.now.values) }
 {
     if !notes.has(slots::MPB) {
         return BurstPart::None;
@@ -79,18 +79,18 @@ fn burst(notes: &Notes) -> BurstPart
 
 // What the bytes amount to, by whether they are a whole text, and by what was noted of it.
 #[tactic(auto, unfolding(crate::specs::Outcomes::answer_of, crate::specs::Outcomes::outcome_of))]
-pub fn answer(whole: bool, notes: &Notes) -> Result<Reading, Refusal>
-    ensures { result ≡ answer_of whole notes.now }
+pub fn answer(whole: bool, notes: Notes) -> Result<Reading, Refusal>
+    ensures { result ≡ answer_of whole notes }
 {
     if !whole {
         return Err(Refusal::Grammar);
     }
-    if notes.bad || is_incomplete(notes) {
+    if notes.bad || is_incomplete(&notes) {
         return Err(Refusal::Content);
     }
     Ok(Reading {
-        tariff: tariff(notes),
-        burst: burst(notes),
+        tariff: tariff(&notes),
+        burst: burst(&notes),
         values: notes.values,
     })
 }

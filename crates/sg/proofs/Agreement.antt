@@ -1,11 +1,11 @@
 -- The reader answers what a text asks for: its refusal, or its parts, with the first nine values of each phase list.
 use Rattle.std.specs.Prelude.{Result, Ok, Err}
-use Prim.Native.Nat.{ℕ, ◌<◌, min}
+use Prim.Native.Nat.{ℕ, ◌<◌}
 use native.Mathlib.Omega.{arith}
 use mathlib.Core.Bool.{Bool, true, false, cond, ◌||◌}
 use mathlib.Core.List.{List, [], ◌∷◌}
 use mathlib.Core.Path.{◌≡◌, refl, ap, ◌∙◌}
-use lib.ListN.{length, take}
+use lib.ListN.{take}
 use Rattle.phase_lists.specs.Lists.{first_places}
 use Rattle.descriptor.specs.declared.Refusal.TheVariants.{Grammar, Content}
 use Rattle.descriptor.specs.declared.Refusal.{Refusal}
@@ -17,7 +17,7 @@ use Rattle.grammar.proofs.Readings.{found-says}
 use Rattle.notes.specs.Noting.{has_in, values_at}
 use Rattle.notes.specs.declared.Notes.{Notes}
 use Rattle.sg.specs.Readings.{text_notes, read_in, read_of}
-use Rattle.outcomes.specs.Outcomes.{kept_of, lists_in, outcome_of}
+use Rattle.outcomes.specs.Outcomes.{lists_in, outcome_of}
 use Rattle.outcomes.specs.declared.Reading.{Reading}
 use Rattle.sg.proofs.Told.{text_on, Tells, text-told}
 use Rattle.sg.proofs.Words.{given-named}
@@ -37,27 +37,24 @@ module _ (gs : Row Given) (n : Notes) (h : Tells gs n) (sound : any_faulty gs �
   there : (s : ℕ) → s < 17 → has_in n.values s ≡ has gs s
   there s low = h.told-has sound s low
 
-  kept : (s : ℕ) → s < 17 → kept_of n.values s ≡ take 9 (values_of gs s)
-  kept s low =
-      let k = (h.told-values sound s low).keeps in
-      let e : min (values_at n.values s).count 9 ≡ min (length (values_of gs s)) 9 = let c = k.count-is in omega arith in
-      ap (λ (i : ℕ). take i (values_at n.values s).items) e ∙ k.slice_is
+  kept : (s : ℕ) → s < 17 → values_at n.values s ≡ take 9 (values_of gs s)
+  kept s low = (h.told-values sound s low).keeps
 
-  first-told : (d s : ℕ) → s < 17 → first_or d (kept_of n.values s) ≡ first_or d (values_of gs s)
+  first-told : (d s : ℕ) → s < 17 → first_or d (values_at n.values s) ≡ first_or d (values_of gs s)
   first-told d s low = ap (first_or d) (kept s low) ∙ first-kept d (values_of gs s)
 
   incomplete_told : is_incomplete (has_in n.values) ≡ is_incomplete (has gs)
   incomplete_told =
       rw (there 0 (omega arith), there 2 (omega arith), there 8 (omega arith), there 10 (omega arith), there 11 (omega arith), there 12 (omega arith), there 13 (omega arith), there 14 (omega arith), there 15 (omega arith), there 16 (omega arith))
 
-  tariff-told : tariff_by (has_in n.values) (kept_of n.values) ≡ tariff_by (has gs) (values_of gs)
+  tariff-told : tariff_by (has_in n.values) (values_at n.values) ≡ tariff_by (has gs) (values_of gs)
   tariff-told =
       rw (there 0 (omega arith), there 1 (omega arith), there 8 (omega arith), there 9 (omega arith), first-told 0 2 (omega arith), first-told 0 3 (omega arith))
 
-  burst-told : burst_by (has_in n.values) (kept_of n.values) ≡ burst_by (has gs) (values_of gs)
+  burst-told : burst_by (has_in n.values) (values_at n.values) ≡ burst_by (has gs) (values_of gs)
   burst-told = rw (there 4 (omega arith), there 5 (omega arith), first-told 1 6 (omega arith), first-told 1 7 (omega arith))
 
-  lists_told : lists_by (kept_of n.values) ≡ first_places (lists_by (values_of gs)) 9
+  lists_told : lists_by (values_at n.values) ≡ first_places (lists_by (values_of gs)) 9
   lists_told =
       rw (kept 10 (omega arith), kept 11 (omega arith), kept 12 (omega arith), kept 13 (omega arith), kept 14 (omega arith), kept 15 (omega arith), kept 16 (omega arith))
 
@@ -72,8 +69,8 @@ agrees-told gs n h = rw h.told-bad (faulty (any_faulty gs) refl)
     answer : Result Reading Refusal
     answer =
         Ok (record {
-          tariff = tariff_by (has_in n.values) (kept_of n.values);
-          burst = burst_by (has_in n.values) (kept_of n.values);
+          tariff = tariff_by (has_in n.values) (values_at n.values);
+          burst = burst_by (has_in n.values) (values_at n.values);
           values = n.values;
         })
 

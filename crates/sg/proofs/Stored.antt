@@ -1,17 +1,16 @@
 -- The values that are stored: each slot holds the first nine of those that were noted for it.
-use Prim.Native.Nat.{ℕ, suc, ◌+◌, ◌≤◌, ◌<◌, min}
+use Prim.Native.Nat.{ℕ, ◌+◌, ◌<◌, min}
 use native.Mathlib.Omega.{arith}
 use mathlib.Core.Bool.{Bool, true, false, cond, ◌||◌, true≢false as no, or-false, or_assoc}
 use mathlib.Core.List.{List, [], ◌∷◌, ◌++◌, append-nil, append_assoc}
 use mathlib.Core.Path.{◌≡◌, refl, sym, ap, subst, ◌∙◌}
 use borrow.Author.Tests.{lt-ltb, ltb-true, ltb-false}
 use lib.Dec.{ltb}
-use lib.ListN.{length, set, take, length-set, length-append}
-use lib.Seq.{get_or-set_same, get_or-set_other, take_all, take-append-le, take-suc-set}
+use lib.ListN.{length, set, take, length-set, length-append, length-take}
+use lib.Seq.{get_or-set_same, get_or-set_other, take_all, take-append-le}
 use Rattle.grammar.specs.Grammar.{Row, none, ◌▹◌}
 use Rattle.grammar.specs.Meaning.{listed, any_too_large, values_by}
 use Rattle.notes.specs.Noting.{no_values, pushed, values_at, has_in, stored_of, value_of, marked_of, item_slot, signal_slot}
-use Rattle.notes.specs.declared.values.Values.{Values}
 use Rattle.notes.specs.declared.Notes.{Notes}
 use Rattle.scanner.specs.Codes.{number_of, code_of}
 use Rattle.sg.specs.Readings.{numbers_notes}
@@ -45,18 +44,18 @@ pub record Noted (n m : Notes) (w : Bool) : Type 0 where
   pub others : (s : ℕ) → (s ≡ n.slot → ⊥) → has_in m.values s ≡ has_in n.values s
 
 -- other values at the slot
-abbrev put_of : Notes → Values → Notes
+abbrev put_of : Notes → List ℕ → Notes
 put_of n x = record { bad = n.bad; signal = n.signal; slot = n.slot; values = set n.values n.slot x }
 
-pushed-some : (vs : Values) (v : ℕ) → 0 < (pushed vs v).count
-pushed-some vs v = at (ltb vs.count 9) refl
+pushed-some : (vs : List ℕ) (v : ℕ) → 0 < length (pushed vs v)
+pushed-some vs v = at (ltb (length vs) 9) refl
   where
-    at : (t : Bool) → ltb vs.count 9 ≡ t → 0 < (cond t (record { count = vs.count + 1; items = set vs.items vs.count v }) vs).count
-    at true e = omega arith
-    at false e = let h = ltb-false vs.count 9 e in omega arith
+    at : (t : Bool) → ltb (length vs) 9 ≡ t → 0 < length (cond t (vs ++ (v ∷ [])) vs)
+    at true e = let o : length (vs ++ (v ∷ [])) ≡ length vs + 1 = length-append vs (v ∷ []) in omega arith
+    at false e = let h = ltb-false (length vs) 9 e in omega arith
 
 module _ (n : Notes) (v : ℕ) (sized : length n.values ≡ 18) (low : n.slot < 18) where
-  put_noted : (x : Values) → 0 < x.count → Noted n (put_of n x) false
+  put_noted : (x : List ℕ) → 0 < length x → Noted n (put_of n x) false
   unfolding has_in
   put_noted x some =
       record {
@@ -64,7 +63,7 @@ module _ (n : Notes) (v : ℕ) (sized : length n.values ≡ 18) (low : n.slot < 
         signal-is = refl;
         slot_is = refl;
         size = length-set n.values n.slot x ∙ sized;
-        here = λ e. rw (lt-ltb n.slot 18 low, get_or-set_same n.values n.slot x no_values (omega arith)) (lt-ltb 0 x.count some);
+        here = λ e. rw (lt-ltb n.slot 18 low, get_or-set_same n.values n.slot x no_values (omega arith)) (lt-ltb 0 (length x) some);
         others = λ s ne. rw (get_or-set_other n.values n.slot s x no_values (λ q. ne q));
       }
 
@@ -121,52 +120,30 @@ or_left false b e = refl
 
 -- THE VALUES: each slot holds the first nine values of its name
 
--- the first nine of l are kept
-pub record Keeps (vs : Values) (l : List ℕ) : Type 0 where
-  pub room : length vs.items ≡ 9
-  pub count-is : vs.count ≡ min (length l) 9
-  pub slice_is : take (min (length l) 9) vs.items ≡ take 9 l
-
-pushed-keeps : (vs : Values) (l : List ℕ) (v : ℕ) → Keeps vs l → Keeps (pushed vs v) (l ++ (v ∷ []))
-pushed-keeps vs l v h = at (ltb vs.count 9) refl
+pushed-keeps : (vs l : List ℕ) (v : ℕ) → vs ≡ take 9 l → pushed vs v ≡ take 9 (l ++ (v ∷ []))
+pushed-keeps vs l v h = at (ltb (length vs) 9) refl
   where
-    at : (t : Bool) → ltb vs.count 9 ≡ t → Keeps (cond t (record { count = vs.count + 1; items = set vs.items vs.count v }) vs) (l ++ (v ∷ []))
+    held : length vs ≡ min 9 (length l)
+    held = ap (λ (x : List ℕ). length x) h ∙ length-take 9 l
+
+    longer : length (l ++ (v ∷ [])) ≡ length l + 1
+    longer = length-append l (v ∷ [])
+
+    at : (t : Bool) → ltb (length vs) 9 ≡ t → cond t (vs ++ (v ∷ [])) vs ≡ take 9 (l ++ (v ∷ []))
     at true e =
-        let less = ltb-true vs.count 9 e in
-        let c = h.count-is in
-        let r = h.room in
-        let q : vs.count ≡ length l = omega arith in
-        let m : min (length l) 9 ≡ length l = omega arith in
-        let o : length (l ++ (v ∷ [])) ≡ length l + 1 = length-append l (v ∷ []) in
-        let p : min (length (l ++ (v ∷ []))) 9 ≡ suc (length l) = omega arith in
-        let inside : length l < length vs.items = omega arith in
-        let before : take (length l) vs.items ≡ l = rw m at h.slice_is ∙ take_all 9 l (omega arith) in
-        record {
-          room = length-set vs.items vs.count v ∙ r;
-          count-is = omega arith;
-          slice_is =
-              ap (λ (i : ℕ). take i (set vs.items vs.count v)) p
-              ∙ ap (λ (i : ℕ). take (suc (length l)) (set vs.items i v)) q
-              ∙ take-suc-set vs.items (length l) v inside
-              ∙ ap (λ (x : List ℕ). x ++ (v ∷ [])) before
-              ∙ sym (take_all 9 (l ++ (v ∷ [])) (omega arith));
-        }
+        let less = ltb-true (length vs) 9 e in
+        let c = held in
+        let o = longer in
+        ap (λ (x : List ℕ). x ++ (v ∷ [])) (h ∙ take_all 9 l (omega arith)) ∙ sym (take_all 9 (l ++ (v ∷ [])) (omega arith))
     at false e =
-        let more = ltb-false vs.count 9 e in
-        let c = h.count-is in
-        let long : 9 ≤ length l = omega arith in
-        let o : length (l ++ (v ∷ [])) ≡ length l + 1 = length-append l (v ∷ []) in
-        let p : min (length (l ++ (v ∷ []))) 9 ≡ min (length l) 9 = omega arith in
-        record {
-          room = h.room;
-          count-is = c ∙ sym p;
-          slice_is = ap (λ (i : ℕ). take i vs.items) p ∙ h.slice_is ∙ sym (take-append-le 9 l (v ∷ []) long);
-        }
+        let more = ltb-false (length vs) 9 e in
+        let c = held in
+        h ∙ sym (take-append-le 9 l (v ∷ []) (omega arith))
 
 -- slot s holds the first nine of l
 pub record Holds (n : Notes) (s : ℕ) (l : List ℕ) : Type 0 where
   pub rows : length n.values ≡ 18
-  pub keeps : Keeps (values_at n.values s) l
+  pub keeps : values_at n.values s ≡ take 9 l
 
 module _ (n : Notes) (v : ℕ) (low : n.slot < 18) where
   stored-own : (l : List ℕ) → Holds n n.slot l → Holds (stored_of n v) n.slot (l ++ (v ∷ []))
@@ -176,9 +153,7 @@ module _ (n : Notes) (v : ℕ) (low : n.slot < 18) where
       rw (lt-ltb n.slot 18 low)
       (record {
         rows = length-set n.values n.slot x ∙ r;
-        keeps =
-            subst (λ (y : Values). Keeps y (l ++ (v ∷ []))) (sym (get_or-set_same n.values n.slot x no_values (omega arith)))
-            (pushed-keeps (values_at n.values n.slot) l v h.keeps);
+        keeps = get_or-set_same n.values n.slot x no_values (omega arith) ∙ pushed-keeps (values_at n.values n.slot) l v h.keeps;
       })
 
   stored_other : (s : ℕ) (l : List ℕ) → Holds n s l → (s ≡ n.slot → ⊥) → Holds (stored_of n v) s l
@@ -187,7 +162,7 @@ module _ (n : Notes) (v : ℕ) (low : n.slot < 18) where
       rw (lt-ltb n.slot 18 low)
       (record {
         rows = length-set n.values n.slot x ∙ h.rows;
-        keeps = subst (λ (y : Values). Keeps y l) (sym (get_or-set_other n.values n.slot s x no_values (λ q. ne q))) h.keeps;
+        keeps = get_or-set_other n.values n.slot s x no_values (λ q. ne q) ∙ h.keeps;
       })
 
 module _ (n : Notes) (v : ℕ) where

@@ -11,12 +11,11 @@ use Rattle.tariff.proofs.Both.{both_left, both_right}
 use Rattle.grammar.specs.Grammar.{Row, none, ◌▹◌, single, list, Item, keep, valued, Signal, bare, braced, Text, empty, signals, bytes}
 use Rattle.grammar.specs.Meaning.{Known, ◌↣◌, known_signals, items_of, keep_slot, Form, alone, with_number, with_list, Given, given, item_by, items_by, signal_by, signals_by, text_by, has, listed, values_of, form_is_wrong, any_too_large, any_faulty}
 use Rattle.notes.specs.Noting.{no_values, values_at, slot_in, item_slot, signal_slot, no_notes, has_in, touch_of, stored_of, value_of, marked_of, signal_of, item_of, list_of}
-use Rattle.notes.specs.declared.values.Values.{Values}
 use Rattle.notes.specs.declared.Notes.{Notes}
 use Rattle.scanner.specs.Codes.{code_of, number_of}
 use Rattle.sg.specs.Readings.{item_notes, items_notes, signal_notes, signals_notes, text_notes}
 use Rattle.sg.proofs.Codes.{items_all}
-use Rattle.sg.proofs.Stored.{item_coded, signal_coded, numbers, values_notes, Noted, values-noted, numbers-noted, Keeps, Holds, values_other, values-own, or_left, or_right}
+use Rattle.sg.proofs.Stored.{item_coded, signal_coded, numbers, values_notes, Noted, values-noted, numbers-noted, Holds, values_other, values-own, or_left, or_right}
 
 abbrev item_on : ℕ → Item → Given
 item_on s i = item_by item_coded signal_coded number_of s i
@@ -223,16 +222,16 @@ blanks zero s = refl
 blanks (suc n) zero = refl
 blanks (suc n) (suc s) = blanks n s
 
-nothing-kept : (s : ℕ) → Keeps (values_at no_notes.values s) []
-nothing-kept s = subst (λ (x : Values). Keeps x []) (sym (blanks 18 s)) (record { room = refl; count-is = refl; slice_is = refl })
+nothing-kept : (s : ℕ) → values_at no_notes.values s ≡ []
+nothing-kept s = blanks 18 s
 
 nothing-given : (s : ℕ) → has_in no_notes.values s ≡ false
 unfolding has_in
 nothing-given s = at (ltb s 18)
   where
-    at : (t : Bool) → ltb 0 (cond t (values_at no_notes.values s).count 0) ≡ false
+    at : (t : Bool) → ltb 0 (cond t (length (values_at no_notes.values s)) 0) ≡ false
     at false = refl
-    at true = ap (λ (x : Values). ltb 0 x.count) (blanks 18 s)
+    at true = ap (λ (x : List ℕ). ltb 0 (length x)) (nothing-kept s)
 
 signals-told : (ss : Row Signal) → Tells (signals_on ss) (signals_notes ss)
 signals-told none =

@@ -25,5 +25,5 @@ pub fn read(text: &[u8]) -> Result<Reading, Refusal>
         }
         scanner = turn.scanner;
     }
-    outcomes::answer(scanner.is_whole(), &notes)
+    outcomes::answer(scanner.is_whole(), notes)
 }

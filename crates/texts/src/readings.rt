@@ -1,17 +1,17 @@
 // What a text reads as, in words: the number of a refusal, or the tariff part and the burst part.
 use descriptor::{BurstPart, TariffPart};
-use outcomes::{Reading, Values, slots};
+use outcomes::{Reading, slots};
 use outlet::Outlet;
 use std::io;
 use std::io::{Stdout, Write};
 
 // Puts a phase list in brackets. One that is over eight long is too long for a tariff, and not written out.
-fn put_list(out: &mut Outlet<Stdout>, list: &Values) -> io::Result<()> {
-    if list.count > 8 {
+fn put_list(out: &mut Outlet<Stdout>, list: &[u32]) -> io::Result<()> {
+    if list.len() > 8 {
         return out.write_all(b" [long]");
     }
     out.write_all(b" [")?;
-    for (i, value) in list.as_slice().iter().enumerate() {
+    for (i, value) in list.iter().enumerate() {
         if i > 0 {
             out.write_all(b",")?;
         }
@@ -23,8 +23,9 @@ fn put_list(out: &mut Outlet<Stdout>, list: &Values) -> io::Result<()> {
 // Puts a phased tariff: its seven lists.
 fn put_phases(out: &mut Outlet<Stdout>, reading: &Reading) -> io::Result<()> {
     out.write_all(b"ph")?;
-    for list in &reading.values[slots::PRI..slots::UNKNOWN] {
-        put_list(out, list)?;
+    let values = &reading.values[..];
+    for list in &values[slots::PRI..slots::UNKNOWN] {
+        put_list(out, list.as_slice())?;
     }
     Ok(())
 }
