@@ -14,8 +14,8 @@ abbrev pub kept_of : List Values → ℕ → List ℕ
 kept_of l s = kept (values_at l s)
 
 -- the seven phase lists, with what is kept of each
-abbrev pub lists_in : Reading → Lists
-lists_in r = lists_by (kept_of r.values)
+abbrev pub lists_of_reading : Reading → Lists
+lists_of_reading r = lists_by (kept_of r.values)
 
 -- of a text that the grammar has: a refusal where a name or a value is wrong, or else the parts
 unfoldable pub outcome_of : Notes → Result Reading Refusal
