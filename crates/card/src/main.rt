@@ -5,8 +5,8 @@
 mod cards;
 mod commands;
 mod groups;
+mod pending;
 mod ticks;
-mod waiting;
 
 use cards::Card;
 use lines::{Input, Span};

@@ -2,7 +2,6 @@
 #![tactic(auto)]
 
 mod gateway;
-mod waiting;
 
 use gateway::Gateway;
 use lines::{Input, Span};

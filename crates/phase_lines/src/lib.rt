@@ -7,9 +7,12 @@ ghost use Rattle.line.specs.Lines.{meant_by};
 ghost use Rattle.phase_lists.specs.Lists.{lists_in};
 ghost use Rattle.phase_lines.specs.Gathering.{none_read, with_phase, with_line, lists_of_phases};
 
+mod waiting;
+
 use descriptor::{BurstPart, Descriptor, TariffPart};
 use phase_lists::PhaseLists;
 use tariff::Phase;
+pub use waiting::Waiting;
 
 // How many phases were read, at most nine, whether a line was bad, and the numbers of the phases, by name.
 // Stays: fixed memory, and a line takes a list for each name; a phase line that is bad leaves those before it.
