@@ -7,6 +7,7 @@ use line::{Audited, Line};
 use outlet::Outlet;
 use phase_lines::{Phases, Waiting};
 use printing::Answer;
+use programs::Program;
 use script::{CardCommand, Command, Giving};
 use std::io;
 use std::io::Stdout;
@@ -105,9 +106,11 @@ impl Card {
             _ => put_answer(out, Answer::Bad),
         }
     }
+}
 
+impl Program<Stdout> for Card {
     // Reads a line of the script and obeys it: a command, or a phase line that a descriptor waits for.
-    pub(crate) fn read(&mut self, text: &[u8], out: &mut Outlet<Stdout>) -> io::Result<()> {
+    fn read(&mut self, text: &[u8], out: &mut Outlet<Stdout>) -> io::Result<()> {
         if let Some(mut pending) = self.pending {
             pending.waiting = pending.waiting.with(script::read_phase(text));
             return self.gather(pending, out);
@@ -119,7 +122,7 @@ impl Card {
     }
 
     // At the end of the input, a descriptor whose phase lines are missing is bad.
-    pub(crate) fn close(&self, out: &mut Outlet<Stdout>) -> io::Result<()> {
+    fn close(&self, out: &mut Outlet<Stdout>) -> io::Result<()> {
         if self.pending.is_some() {
             put_answer(out, Answer::Bad)?;
         }

@@ -4,6 +4,7 @@ use line::{Answered, Line};
 use outlet::Outlet;
 use phase_lines::{Phases, Waiting};
 use printing::Answer;
+use programs::Program;
 use script::Command;
 use state::State;
 use std::io;
@@ -142,9 +143,11 @@ impl Gateway {
             _ => put_answer(out, Answer::Bad),
         }
     }
+}
 
+impl Program<Stdout> for Gateway {
     // Reads a line of the script and obeys it: a command, or a phase line that a descriptor waits for.
-    pub(crate) fn read(&mut self, text: &[u8], out: &mut Outlet<Stdout>) -> io::Result<()> {
+    fn read(&mut self, text: &[u8], out: &mut Outlet<Stdout>) -> io::Result<()> {
         match self.waiting {
             Some(waiting) => self.gather(waiting.with(script::read_phase(text)), out),
             None => self.obey(script::read_command(text), out),
@@ -152,7 +155,7 @@ impl Gateway {
     }
 
     // At the end of the input, a descriptor whose phase lines are missing is bad.
-    pub(crate) fn close(&self, out: &mut Outlet<Stdout>) -> io::Result<()> {
+    fn close(&self, out: &mut Outlet<Stdout>) -> io::Result<()> {
         if self.waiting.is_some() {
             put_answer(out, Answer::Bad)?;
         }
