@@ -1,5 +1,5 @@
 // A card: its row of lines, what each of them answers, and what is printed of it.
-use super::waiting::Waiting;
+use super::pending::Pending;
 use descriptor::Descriptor;
 use dispatcher::Dispatcher;
 use line::{Answered, Asked, Line};
@@ -18,7 +18,7 @@ pub struct Card {
     pub count: usize,
     pub ticks: u32,
     pub dispatcher: Dispatcher,
-    pub waiting: Option<Waiting>,
+    pub pending: Option<Pending>,
 }
 
 // Puts an answer.
@@ -34,7 +34,7 @@ impl Card {
             count: 0,
             ticks: 0,
             dispatcher: Dispatcher::new(),
-            waiting: None,
+            pending: None,
         }
     }
 

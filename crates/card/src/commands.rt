@@ -1,12 +1,13 @@
 // What each line of a script does to the card.
 use super::cards::{Card, put_answer};
 use super::groups;
-use super::waiting::Waiting;
-use descriptor::{Descriptor, TariffPart};
+use super::pending::Pending;
+use descriptor::Descriptor;
 use line::{Audited, Line};
 use outlet::Outlet;
-use phase_lines::Phases;
+use phase_lines::{Phases, Waiting};
 use printing::Answer;
+use programs::Program;
 use script::{CardCommand, Command, Giving};
 use std::io;
 use std::io::Stdout;
@@ -35,7 +36,11 @@ impl Card {
             Command::Period(rp) => self.answered(place, line.set_period(rp), out),
             Command::NoPeriod => self.answered(place, line.clear_period(), out),
             Command::Describe { phases, burst, .. } if phases > 0 => {
-                self.waiting = Some(Waiting::new(phases, place, giving, burst));
+                self.pending = Some(Pending {
+                    place,
+                    giving,
+                    waiting: Waiting::new(phases, burst),
+                });
                 Ok(())
             }
             Command::Describe { tariff, burst, .. } => {
@@ -85,25 +90,30 @@ impl Card {
     }
 
     // Obeys a descriptor that waits, once its phase lines have come.
-    fn gather(&mut self, waiting: Waiting, out: &mut Outlet<Stdout>) -> io::Result<()> {
+    fn gather(&mut self, pending: Pending, out: &mut Outlet<Stdout>) -> io::Result<()> {
+        let Pending {
+            place,
+            giving,
+            waiting,
+        } = pending;
         if waiting.missing > 0 {
-            self.waiting = Some(waiting);
+            self.pending = Some(pending);
             return Ok(());
         }
-        self.waiting = None;
-        match self.line_at(waiting.place) {
-            Some(line) if !waiting.phases.bad => {
-                let given = waiting.phases.descriptor(TariffPart::Phased, waiting.burst);
-                self.give(waiting.place, line, waiting.giving, given, out)
-            }
+        self.pending = None;
+        match (self.line_at(place), waiting.descriptor()) {
+            (Some(line), Some(given)) => self.give(place, line, giving, given, out),
             _ => put_answer(out, Answer::Bad),
         }
     }
+}
 
+impl Program<Stdout> for Card {
     // Reads a line of the script and obeys it: a command, or a phase line that a descriptor waits for.
-    pub(crate) fn read(&mut self, text: &[u8], out: &mut Outlet<Stdout>) -> io::Result<()> {
-        if let Some(waiting) = self.waiting {
-            return self.gather(waiting.with(text), out);
+    fn read(&mut self, text: &[u8], out: &mut Outlet<Stdout>) -> io::Result<()> {
+        if let Some(mut pending) = self.pending {
+            pending.waiting = pending.waiting.with(script::read_phase(text));
+            return self.gather(pending, out);
         }
         match script::read_card(text) {
             Some(command) => self.obey(command, text, out),
@@ -112,8 +122,8 @@ impl Card {
     }
 
     // At the end of the input, a descriptor whose phase lines are missing is bad.
-    pub(crate) fn close(&self, out: &mut Outlet<Stdout>) -> io::Result<()> {
-        if self.waiting.is_some() {
+    fn close(&self, out: &mut Outlet<Stdout>) -> io::Result<()> {
+        if self.pending.is_some() {
             put_answer(out, Answer::Bad)?;
         }
         out.flush()

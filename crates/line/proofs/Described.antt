@@ -22,7 +22,7 @@ use Rattle.line.specs.Lines.{scheduled, tariff_changed, refusing, answered_by, d
 use Rattle.line.specs.declared.Answered.{Answered}
 use Rattle.line.specs.declared.Line.{Line}
 use Rattle.grammar.specs.Meaning.{Reading as Meant, unreadable, senseless, descriptor, reading_of}
-use Rattle.outcomes.specs.Outcomes.{lists_in}
+use Rattle.outcomes.specs.Outcomes.{lists_of_reading}
 use Rattle.outcomes.specs.declared.Reading.{Reading}
 use Rattle.sg.specs.Readings.{read_of}
 use Rattle.sg.proofs.Agreement.{Agrees, agrees}
@@ -69,7 +69,7 @@ describe_nine l Phased ls p = cases (sound_lists ls) (λ t. ap (λ (ms : Lists).
 -- what the code makes of a reading
 abbrev taken : Line → Result Reading Refusal → Answered
 taken l (Err r) = refusing l r
-taken l (Ok q) = described_by l q.tariff (table_for l.spacing q.tariff (lists_in q)) q.burst
+taken l (Ok q) = described_by l q.tariff (table_for l.spacing q.tariff (lists_of_reading q)) q.burst
 
 read_is : (l : Line) (m : Meant) (r : Result Reading Refusal) → Agrees m r → taken l r ≡ read_answer l m
 read_is l unreadable r h = ap (taken l) h

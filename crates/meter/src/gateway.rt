@@ -1,11 +1,10 @@
 // What each line of a script does to the line, and what is printed of it.
-use super::waiting::Waiting;
 use answers::Tick;
-use descriptor::TariffPart;
 use line::{Answered, Line};
 use outlet::Outlet;
-use phase_lines::Phases;
+use phase_lines::{Phases, Waiting};
 use printing::Answer;
+use programs::Program;
 use script::Command;
 use state::State;
 use std::io;
@@ -139,25 +138,24 @@ impl Gateway {
             return Ok(());
         }
         self.waiting = None;
-        match self.line {
-            Some(line) if !waiting.phases.bad => {
-                let given = waiting.phases.descriptor(TariffPart::Phased, waiting.burst);
-                self.answered(line.describe(given), out)
-            }
+        match (self.line, waiting.descriptor()) {
+            (Some(line), Some(given)) => self.answered(line.describe(given), out),
             _ => put_answer(out, Answer::Bad),
         }
     }
+}
 
+impl Program<Stdout> for Gateway {
     // Reads a line of the script and obeys it: a command, or a phase line that a descriptor waits for.
-    pub(crate) fn read(&mut self, text: &[u8], out: &mut Outlet<Stdout>) -> io::Result<()> {
+    fn read(&mut self, text: &[u8], out: &mut Outlet<Stdout>) -> io::Result<()> {
         match self.waiting {
-            Some(waiting) => self.gather(waiting.with(text), out),
+            Some(waiting) => self.gather(waiting.with(script::read_phase(text)), out),
             None => self.obey(script::read_command(text), out),
         }
     }
 
     // At the end of the input, a descriptor whose phase lines are missing is bad.
-    pub(crate) fn close(&self, out: &mut Outlet<Stdout>) -> io::Result<()> {
+    fn close(&self, out: &mut Outlet<Stdout>) -> io::Result<()> {
         if self.waiting.is_some() {
             put_answer(out, Answer::Bad)?;
         }

@@ -53,7 +53,7 @@ impl Notes {
     fn touch(&mut self, slot: usize)
         ensures { self.new ≡ touch_of self.old slot }
     {
-        self.mark((slot == slots::UNKNOWN) | self.has(slot));
+        self.mark(slot == slots::UNKNOWN || self.has(slot));
         self.slot = slot;
     }
 

@@ -1,7 +1,6 @@
 // The slots of the names that are known, by their codes.
 ghost use Rattle.std.specs.Prelude.{◌≡◌};
 ghost use Rattle.grammar.specs.Meaning.{keep_slot, is_list};
-ghost use Rattle.scanner.specs.Codes.{next_letter, next_digit};
 ghost use Rattle.notes.specs.Noting.{signal_slot, item_slot, slot_in};
 ghost use Rattle.grammar.specs.Meaning.{em_items, mpb_items, phsm_items};
 

@@ -9,8 +9,8 @@ use Rattle.notes.specs.declared.Notes.{Notes}
 use Rattle.outcomes.specs.declared.Reading.{Reading}
 
 -- the seven phase lists, with what is kept of each
-abbrev pub lists_in : Reading → Lists
-lists_in r = lists_by (values_at r.values)
+abbrev pub lists_of_reading : Reading → Lists
+lists_of_reading r = lists_by (values_at r.values)
 
 -- of a text that the grammar has: a refusal where a name or a value is wrong, or else the parts
 unfoldable pub outcome_of : Notes → Result Reading Refusal

@@ -5,7 +5,7 @@ ghost use Rattle.std.specs.Prelude.{◌≡◌};
 ghost use Rattle.descriptor.specs.Rulings.{table_for};
 ghost use Rattle.grammar.specs.Meaning.{has_lists, is_incomplete, tariff_by, burst_by};
 ghost use Rattle.notes.specs.Noting.{has_in, values_at};
-ghost use Rattle.outcomes.specs.Outcomes.{lists_in, answer_of};
+ghost use Rattle.outcomes.specs.Outcomes.{lists_of_reading, answer_of};
 
 use descriptor::{BurstPart, Refusal, TariffPart};
 use notes::Notes;
@@ -98,7 +98,7 @@ pub fn answer(whole: bool, notes: Notes) -> Result<Reading, Refusal>
 impl Reading {
     // The phases of a descriptor, read from what is kept of its lists and judged for a line of this spacing.
     pub fn phases(&self, spacing: u32) -> PhaseTable
-        ensures { result ≡ table_for spacing self.now.tariff (lists_in self.now) }
+        ensures { result ≡ table_for spacing self.now.tariff (lists_of_reading self.now) }
     {
         let lists = PhaseLists {
             pri: self.values[slots::PRI].as_slice(),

@@ -8,7 +8,7 @@ use borrow.Author.Tests.{eq-eqb}
 use Rattle.tariff.specs.declared.Phase.{Phase}
 use Rattle.phase_lists.specs.Lists.{phase_of, first_phases, phases_of, one_length}
 use Rattle.phase_lines.specs.declared.Phases.{Phases}
-use Rattle.phase_lines.specs.Gathering.{none_read, stored, with_line, lists_in, with_all, AsRead}
+use Rattle.phase_lines.specs.Gathering.{none_read, stored, with_line, lists_of_phases, with_all, AsRead}
 
 -- one number more in a list leaves those before it
 still : (n : List ℕ) (k v i : ℕ) → i < k → get_or (take (k + 1) (set n k v)) i 0 ≡ get_or (take k n) i 0
@@ -44,7 +44,7 @@ stored-nine s p nine =
     }
 
 module _ (s : Phases) (p : Phase) (nine : Nine s) (room : s.taken < 9) where
-  kept : (i : ℕ) → i < s.taken → phase_of (lists_in (stored s p)) i ≡ phase_of (lists_in s) i
+  kept : (i : ℕ) → i < s.taken → phase_of (lists_of_phases (stored s p)) i ≡ phase_of (lists_of_phases s) i
   kept i before =
       let k = s.taken in
       rw (
@@ -57,7 +57,7 @@ module _ (s : Phases) (p : Phase) (nine : Nine s) (room : s.taken < 9) where
         still s.pd k p.pd i before,
       )
 
-  this : phase_of (lists_in (stored s p)) s.taken ≡ p
+  this : phase_of (lists_of_phases (stored s p)) s.taken ≡ p
   this =
       let k = s.taken in
       rw (
@@ -70,12 +70,12 @@ module _ (s : Phases) (p : Phase) (nine : Nine s) (room : s.taken < 9) where
         comes s.pd k p.pd (omega (arith, nine.pd)),
       )
 
-  before-this : (i : ℕ) → i ≤ s.taken → first_phases (lists_in (stored s p)) i ≡ first_phases (lists_in s) i
+  before-this : (i : ℕ) → i ≤ s.taken → first_phases (lists_of_phases (stored s p)) i ≡ first_phases (lists_of_phases s) i
   unfolding first_phases
   before-this zero few = refl
   before-this (suc i) few = rw (before-this i (omega arith), kept i (omega arith))
 
-  one_more_lem : phases_of (lists_in (stored s p)) ≡ phases_of (lists_in s) ++ (p ∷ [])
+  one_more_lem : phases_of (lists_of_phases (stored s p)) ≡ phases_of (lists_of_phases s) ++ (p ∷ [])
   unfolding first_phases
   one_more_lem =
       let k = s.taken in
@@ -89,13 +89,13 @@ module _ (s : Phases) (p : Phase) (nine : Nine s) (room : s.taken < 9) where
   taken_in = grind (arith, nat_tests)
 
 with_all_lem : (ps : List Phase) (s : Phases) → Nine s → s.taken + length ps ≤ 9
-    → phases_of (lists_in (with_all s ps)) ≡ phases_of (lists_in s) ++ ps
+    → phases_of (lists_of_phases (with_all s ps)) ≡ phases_of (lists_of_phases s) ++ ps
 unfolding with_all
-with_all_lem [] s nine room = sym (append-nil (phases_of (lists_in s)))
+with_all_lem [] s nine room = sym (append-nil (phases_of (lists_of_phases s)))
 with_all_lem (p ∷ ps) s nine room =
     let few : s.taken < 9 = omega arith in
     let more = one_more_lem s p nine few in
-    ap (λ (t : Phases). phases_of (lists_in (with_all t ps))) (taken_in s p nine few)
+    ap (λ (t : Phases). phases_of (lists_of_phases (with_all t ps))) (taken_in s p nine few)
     ∙ with_all_lem ps (stored s p) (stored-nine s p nine) (omega arith)
     ∙ rw (more, append_assoc)
 
@@ -111,7 +111,7 @@ all_fit (p ∷ ps) s nine room =
     subst (λ (t : Phases). Fits (with_all t ps)) (sym (taken_in s p nine (omega arith)))
     (all_fit ps (stored s p) (stored-nine s p nine) (omega arith))
 
-as_long : (s : Phases) → Fits s → one_length (lists_in s) ≡ true
+as_long : (s : Phases) → Fits s → one_length (lists_of_phases s) ≡ true
 as_long s fits =
     rw (
       cut s.pri fits.nine.pri,

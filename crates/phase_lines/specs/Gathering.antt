@@ -45,8 +45,8 @@ with_line s (Some p) = with_phase s p
 with_line s None = record s { bad = true }
 
 -- the numbers that were read, in the seven lists
-abbrev pub lists_in : Phases → Lists
-lists_in s =
+abbrev pub lists_of_phases : Phases → Lists
+lists_of_phases s =
     let k = s.taken in
     lists_of (take k s.pri) (take k s.pcx) (take k s.repx) (take k s.pcn) (take k s.repn) (take k s.ci) (take k s.pd)
 
@@ -61,4 +61,4 @@ with_all s (p ∷ ps) = with_all (with_line s (Some p)) ps
 abbrev pub AsRead : Type 0
 AsRead =
     (ps : List Phase) → length ps ≤ 9 →
-    let ls = lists_in (with_all none_read ps) in (one_length ls ≡ true) × (phases_of ls ≡ ps)
+    let ls = lists_of_phases (with_all none_read ps) in (one_length ls ≡ true) × (phases_of ls ≡ ps)

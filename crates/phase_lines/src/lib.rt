@@ -5,11 +5,14 @@ ghost use Rattle.std.specs.Prelude.{◌≡◌, take};
 ghost use Rattle.grammar.specs.Meaning.{descriptor};
 ghost use Rattle.line.specs.Lines.{meant_by};
 ghost use Rattle.phase_lists.specs.Lists.{lists_in};
-ghost use Rattle.phase_lines.specs.Gathering.{none_read, with_phase, with_line, lists_in as read_lists};
+ghost use Rattle.phase_lines.specs.Gathering.{none_read, with_phase, with_line, lists_of_phases};
+
+mod waiting;
 
 use descriptor::{BurstPart, Descriptor, TariffPart};
 use phase_lists::PhaseLists;
 use tariff::Phase;
+pub use waiting::Waiting;
 
 // How many phases were read, at most nine, whether a line was bad, and the numbers of the phases, by name.
 // Stays: fixed memory, and a line takes a list for each name; a phase line that is bad leaves those before it.
@@ -82,7 +85,7 @@ impl Phases {
 
     // The seven lists, with the phases that were read.
     fn lists(&self) -> PhaseLists<'_>
-        ensures { lists_in result ≡ read_lists self.now }
+        ensures { lists_in result ≡ lists_of_phases self.now }
     {
         let k = self.taken;
         PhaseLists {
@@ -98,7 +101,7 @@ impl Phases {
 
     // A descriptor of these parts, with the phases that were read.
     pub fn descriptor(&self, tariff: TariffPart, burst: BurstPart) -> Descriptor<'_>
-        ensures { meant_by result ≡ descriptor tariff (read_lists self.now) burst }
+        ensures { meant_by result ≡ descriptor tariff (lists_of_phases self.now) burst }
     {
         Descriptor::Parts {
             tariff,

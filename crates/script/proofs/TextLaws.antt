@@ -7,7 +7,7 @@ use Rattle.script.specs.Numbers.{number_of}
 use Rattle.script.specs.Runs.{ends_run, past_run, past_blanks, past_first}
 use Rattle.script.specs.Readers.{Parsed, Reader, after, give, fail, or_else, first, rest, valued, no_word, whole}
 use Rattle.script.specs.Commands.{configure, period, describe, hook, run}
-use Rattle.script.specs.Cards.{of_row, of_place, mapped, all, is_text, given, commit, other, placed, at_place, grouped, group, card_command, past_words, start_of, card_command_of}
+use Rattle.script.specs.Cards.{of_row, of_place, for_row, for_place, all, is_text, given, commit, other, placed, at_place, grouped, group, card_command, past_words, start_of, card_command_of}
 use Rattle.script.specs.declared.Command.{Command}
 use Rattle.script.specs.declared.Command.TheVariants.{Configure, Period, NoPeriod, Describe, OnHook, Run}
 use Rattle.script.specs.declared.Giving.{Giving}
@@ -51,20 +51,25 @@ row-begun (Describe t k u) = refl
 row-begun (OnHook h) = refl
 row-begun (Run t) = refl
 
-place-begun : (place : ℕ) (giving : Giving) (c : Command) → from_in (of_place place giving c) ≡ 0
-place-begun place giving c = refl
-
--- what `meter` reads has no text
-mapped-begun : (f : Command → Option CardCommand) → ((c : Command) → from_in (f c) ≡ 0) → (r : Reader Command) (ws : List (List ℕ)) (n : ℕ) → begun (mapped f r ws) ≤ n
-mapped-begun f e r ws n = at (r ws)
+-- what `meter` reads has no text, for the row
+for_row-begun : (r : Reader Command) (ws : List (List ℕ)) (n : ℕ) → begun (for_row r ws) ≤ n
+for_row-begun r ws n = at (r ws)
   where
     made : (o : Option CardCommand) (vs : List (List ℕ)) → from_in o ≡ 0 → begun (valued o vs) ≤ n
     made None vs z = omega arith
     made (Some c) vs z = omega arith
 
-    at : (p : Parsed Command) → begun (after p (λ c. valued (f c))) ≤ n
+    at : (p : Parsed Command) → begun (after p (λ c. valued (of_row c))) ≤ n
     at None = omega arith
-    at (Some (c, vs)) = made (f c) vs (e c)
+    at (Some (c, vs)) = made (of_row c) vs (row-begun c)
+
+-- and for the line at a place
+for_place-begun : (place : ℕ) (giving : Giving) (r : Reader Command) (ws : List (List ℕ)) (n : ℕ) → begun (for_place place giving r ws) ≤ n
+for_place-begun place giving r ws n = at (r ws)
+  where
+    at : (p : Parsed Command) → begun (after p (λ c. give (of_place place giving c))) ≤ n
+    at None = omega arith
+    at (Some (c, vs)) = omega arith
 
 either : (t : Bool) (r s : Reader CardCommand) (ws : List (List ℕ)) (n : ℕ) → begun (r ws) ≤ n → begun (s ws) ≤ n
     → begun ((if t then r else s) ws) ≤ n
@@ -80,9 +85,8 @@ given-begun giving from place ws =
     let w = first ws in
     let vs = rest ws in
     let no : begun (fail vs) ≤ from = omega arith in
-    let f = of_place place giving in
     either (is_text w) (all (Text place giving from)) _ vs from (omega arith)
-    (either (same w (bytes "sig")) (mapped f describe) fail vs from (mapped-begun f (place-begun place giving) describe vs from) no)
+    (either (same w (bytes "sig")) (for_place place giving describe) fail vs from (for_place-begun place giving describe vs from) no)
 
 commit-begun : (from place : ℕ) (ws : List (List ℕ)) → begun (commit from place ws) ≤ from
 commit-begun from place ws = one (number_of (first ws))
@@ -98,15 +102,13 @@ module _ (start : ℕ → ℕ) (n : ℕ) (within : (k : ℕ) → start k ≤ n) 
       let w = first ws in
       let vs = rest ws in
       let no : begun (fail vs) ≤ n = omega arith in
-      let f = of_place place Take in
-      let z = place-begun place Take in
       let h1 = within 1 in
       let h2 = within 2 in
       let ask = given-begun Ask (start 1) place vs in
       let committed = commit-begun (start 2) place vs in
       either (same w (bytes "audit")) (give (Audit place)) _ vs n (omega arith)
-      (either (same w (bytes "rp")) (mapped f period) _ vs n (mapped-begun f z period vs n)
-      (either (same w (bytes "hook")) (mapped f hook) _ vs n (mapped-begun f z hook vs n)
+      (either (same w (bytes "rp")) (for_place place Take period) _ vs n (for_place-begun place Take period vs n)
+      (either (same w (bytes "hook")) (for_place place Take hook) _ vs n (for_place-begun place Take hook vs n)
       (either (same w (bytes "ask")) (given Ask (start 1) place) _ vs n (omega arith)
       (either (same w (bytes "commit")) (commit (start 2) place) fail vs n (omega arith) no))))
 
@@ -141,8 +143,8 @@ text-within l place giving from e =
     let no : begun (fail vs) ≤ n = omega arith in
     let within : (k : ℕ) → start k ≤ n = λ k. omega arith in
     let h : begun (card_command start (words_of l)) ≤ n =
-    either (same w (bytes "cfg")) (mapped of_row configure) _ vs n (mapped-begun of_row row-begun configure vs n)
-    (either (same w (bytes "tick")) (mapped of_row run) _ vs n (mapped-begun of_row row-begun run vs n)
+    either (same w (bytes "cfg")) (for_row configure) _ vs n (for_row-begun configure vs n)
+    (either (same w (bytes "tick")) (for_row run) _ vs n (for_row-begun run vs n)
     (either (same w (bytes "at")) (at_place start) _ vs n (at-begun start n within vs)
     (either (same w (bytes "group")) group fail vs n (group-begun vs n) no)))
     in

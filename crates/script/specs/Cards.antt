@@ -25,14 +25,20 @@ of_row (OnHook h) = None
 of_row (Run t) = Some (Tick t)
 
 -- a command of `meter` on the line at a place, and how it is given
-abbrev pub of_place : ℕ → Giving → Command → Option CardCommand
-of_place place giving c = Some (On place giving c)
+abbrev pub of_place : ℕ → Giving → Command → CardCommand
+of_place place giving c = On place giving c
 
--- reads what `meter` reads, and gives what it is for a card
-abbrev pub mapped : (Command → Option CardCommand) → Reader Command → Reader CardCommand
-mapped f r = do
+-- reads what `meter` reads, and gives what it asks of the row
+abbrev pub for_row : Reader Command → Reader CardCommand
+for_row r = do
   c ← r
-  valued (f c)
+  valued (of_row c)
+
+-- reads what `meter` reads, and gives it for the line at a place
+abbrev pub for_place : ℕ → Giving → Reader Command → Reader CardCommand
+for_place place giving r = do
+  c ← r
+  give (of_place place giving c)
 
 -- reads all the words that are left, and gives a
 abbrev pub all : {A : Type 0} → A → Reader A
@@ -46,7 +52,7 @@ is_text w = same (take 2 w) (bytes "SG")
 abbrev pub given : Giving → ℕ → ℕ → Reader CardCommand
 given giving from place = do
   w ← word
-  if is_text w then all (Text place giving from) else lookup w (("sig", mapped (of_place place giving) describe) ∷ [])
+  if is_text w then all (Text place giving from) else lookup w (("sig", for_place place giving describe) ∷ [])
 
 -- what follows `commit`: N, and a descriptor
 abbrev pub commit : ℕ → ℕ → Reader CardCommand
@@ -59,8 +65,8 @@ abbrev pub other : (ℕ → ℕ) → ℕ → Reader CardCommand
 other start place =
     choice
     (("audit", give (Audit place))
-    ∷ ("rp", mapped (of_place place Take) period)
-    ∷ ("hook", mapped (of_place place Take) hook)
+    ∷ ("rp", for_place place Take period)
+    ∷ ("hook", for_place place Take hook)
     ∷ ("ask", given Ask (start 1) place)
     ∷ ("commit", commit (start 2) place)
     ∷ [])
@@ -108,8 +114,8 @@ group = do
 abbrev pub card_command : (ℕ → ℕ) → Reader CardCommand
 card_command start =
     choice
-    (("cfg", mapped of_row configure)
-    ∷ ("tick", mapped of_row run)
+    (("cfg", for_row configure)
+    ∷ ("tick", for_row run)
     ∷ ("at", at_place start)
     ∷ ("group", group)
     ∷ [])

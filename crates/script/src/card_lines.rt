@@ -1,7 +1,7 @@
 // The lines of a card's script.
 ghost use Rattle.std.specs.Prelude.{◌≡◌};
 ghost use Rattle.script.specs.Words.{words_of};
-ghost use Rattle.script.specs.Readers.{after, valued};
+ghost use Rattle.script.specs.Readers.{valued};
 ghost use Rattle.script.specs.Told.{told};
 ghost use Rattle.script.specs.Cards.{of_row, past_words, start_of, card_command, card_command_of};
 
@@ -12,10 +12,10 @@ use super::words::{next_word, whole};
 use super::{CardCommand, Command};
 
 // What a command of `meter` that was read asks of the row: `cfg` adds a line to it, and `run` makes ticks of it.
-fn of_row(read: Option<(Command, &[u8])>) -> Option<(CardCommand, &[u8])>
-    ensures { told result ≡ after (told read.entry) (λ c. valued (of_row c)) }
+fn of_row(read: (Command, &[u8])) -> Option<(CardCommand, &[u8])>
+    ensures { told result ≡ valued (of_row read.entry.0) (words_of read.entry.1.now) }
 {
-    match read? {
+    match read {
         (Command::Configure { pulse, gap, clock }, rest) => {
             Some((CardCommand::Configure { pulse, gap, clock }, rest))
         }
@@ -30,8 +30,8 @@ fn next_card_command(line: &[u8]) -> Option<(CardCommand, &[u8])>
 {
     let (word, rest) = next_word(line);
     match word {
-        b"cfg" => of_row(next_configure(rest)),
-        b"tick" => of_row(next_run(rest)),
+        b"cfg" => of_row(next_configure(rest)?),
+        b"tick" => of_row(next_run(rest)?),
         b"at" => next_at(line, rest),
         b"group" => next_group(rest),
         _ => None,

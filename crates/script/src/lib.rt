@@ -20,7 +20,7 @@ pub use phases::read_phase;
 
 // What a line that `meter` reads asks. `phases` is the number of phase lines that follow, 0 where the tariff is not
 // phased.
-#[derive(Clone, Copy)]
+#[derive(Clone, Copy, PartialEq, Eq, Debug)]
 pub enum Command {
     Configure {
         pulse: u32,
@@ -51,7 +51,7 @@ pub enum Giving {
 
 // What a line of a card's script asks. Only a descriptor is asked or committed. A text stands from the byte `from` on to
 // the end of the line. `read_places` reads the places of a group.
-#[derive(Clone, Copy)]
+#[derive(Clone, Copy, PartialEq, Eq, Debug)]
 pub enum CardCommand {
     Configure {
         pulse: u32,

@@ -1,7 +1,7 @@
 // What is for the line at a place: a command of `meter`, `audit`, or a descriptor, which may be asked or committed.
-ghost use Rattle.std.specs.Prelude.{◌≡◌};
+ghost use Rattle.std.specs.Prelude.{◌≡◌, Some};
 ghost use Rattle.script.specs.Words.{words_of};
-ghost use Rattle.script.specs.Readers.{after, valued};
+ghost use Rattle.script.specs.Readers.{give};
 ghost use Rattle.script.specs.Runs.{past_first};
 ghost use Rattle.script.specs.Told.{told};
 ghost use Rattle.script.specs.Cards.{of_place, given, commit, other, placed, at_place, beginning, start_of};
@@ -12,20 +12,16 @@ use super::words::{next_word, past_blanks};
 use super::{CardCommand, Command, Giving};
 
 // A command of `meter` that was read, on the line at a place.
-fn of_place(
-    place: u32,
-    giving: Giving,
-    read: Option<(Command, &[u8])>,
-) -> Option<(CardCommand, &[u8])>
-    ensures { told result ≡ after (told read.entry) (λ c. valued (of_place place giving c)) }
+fn of_place(place: u32, giving: Giving, read: (Command, &[u8])) -> (CardCommand, &[u8])
+    ensures { told (Some result) ≡ give (of_place place giving read.entry.0) (words_of read.entry.1.now) }
 {
-    let (command, rest) = read?;
+    let (command, rest) = read;
     let on = CardCommand::On {
         place,
         giving,
         command,
     };
-    Some((on, rest))
+    (on, rest)
 }
 
 // Reads a descriptor, which stands in the rest of a line: a text, or `sig`.
@@ -49,7 +45,7 @@ fn next_given<'a>(
         return Some((text, &[]));
     }
     match word {
-        b"sig" => of_place(place, giving, next_describe(past)),
+        b"sig" => Some(of_place(place, giving, next_describe(past)?)),
         _ => None,
     }
 }
@@ -69,8 +65,8 @@ fn next_other<'a>(line: &[u8], rest: &'a [u8], place: u32) -> Option<(CardComman
     let (word, rest) = next_word(rest);
     match word {
         b"audit" => Some((CardCommand::Audit(place), rest)),
-        b"rp" => of_place(place, Giving::Take, next_period(rest)),
-        b"hook" => of_place(place, Giving::Take, next_hook(rest)),
+        b"rp" => Some(of_place(place, Giving::Take, next_period(rest)?)),
+        b"hook" => Some(of_place(place, Giving::Take, next_hook(rest)?)),
         b"ask" => next_given(line, rest, place, Giving::Ask),
         b"commit" => next_commit(line, rest, place),
         _ => None,

@@ -1,5 +1,5 @@
 // The words of a line, one after the other.
-ghost use Rattle.std.specs.Prelude.{◌≡◌, ◌==◌, not, length, position};
+ghost use Rattle.std.specs.Prelude.{◌≡◌, ◌==◌, not, position};
 ghost use Rattle.script.specs.Words.{blank, words_of};
 ghost use Rattle.script.specs.Runs.{past_blanks, past_first};
 ghost use Rattle.script.specs.Readers.{first, rest, no_word, whole};

@@ -17,7 +17,7 @@ use Rattle.grammar.proofs.Readings.{found-says}
 use Rattle.notes.specs.Noting.{has_in, values_at}
 use Rattle.notes.specs.declared.Notes.{Notes}
 use Rattle.sg.specs.Readings.{text_notes, read_in, read_of}
-use Rattle.outcomes.specs.Outcomes.{lists_in, outcome_of}
+use Rattle.outcomes.specs.Outcomes.{lists_of_reading, outcome_of}
 use Rattle.outcomes.specs.declared.Reading.{Reading}
 use Rattle.sg.proofs.Told.{text_on, Tells, text-told}
 use Rattle.sg.proofs.Words.{given-named}
@@ -27,7 +27,7 @@ abbrev pub Agrees : Meant → Result Reading Refusal → Type 0
 Agrees unreadable r = r ≡ Err Grammar
 Agrees senseless r = r ≡ Err Content
 Agrees (descriptor t ls b) (Err e) = ⊥
-Agrees (descriptor t ls b) (Ok r) = (r.tariff ≡ t) × (r.burst ≡ b) × (lists_in r ≡ first_places ls 9)
+Agrees (descriptor t ls b) (Ok r) = (r.tariff ≡ t) × (r.burst ≡ b) × (lists_of_reading r ≡ first_places ls 9)
 
 first-kept : (d : ℕ) (l : List ℕ) → first_or d (take 9 l) ≡ first_or d l
 first-kept d [] = refl

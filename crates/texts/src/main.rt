@@ -3,41 +3,28 @@
 
 mod readings;
 
-use lines::{Input, Span};
 use outlet::Outlet;
+use programs::Program;
 use std::io;
-use std::io::{Stdin, Stdout, Write};
+use std::io::{Stdout, Write};
 
-// Puts what a line reads as. Where there is no line yet, all output is written before more is read.
-fn answer(inp: &[u8], line: Option<Span>, out: &mut Outlet<Stdout>) -> io::Result<()> {
-    let Some(line) = line else {
-        return out.flush();
-    };
-    if line.whole {
-        readings::put_reading(out, lines::text(inp, line))
-    } else {
+// The program that puts what each line reads as.
+#[derive(Clone, Copy)]
+struct Texts;
+
+impl Program<Stdout> for Texts {
+    fn read(&mut self, text: &[u8], out: &mut Outlet<Stdout>) -> io::Result<()> {
+        readings::put_reading(out, text)
+    }
+
+    fn too_long(&mut self, out: &mut Outlet<Stdout>) -> io::Result<()> {
         out.write_all(b"too long\n")
     }
-}
-
-// Reads and answers until the input ends. A proved loop has to end, and nothing says that the input does: the steps are
-// counted up to a number that no run reaches.
-fn serve(from: &mut Stdin, inp: &mut [u8], out: &mut Outlet<Stdout>) -> io::Result<()> {
-    let mut input = Input::new();
-    for _ in 0..u64::MAX {
-        let line = input.next(inp);
-        answer(inp, line, out)?;
-        if input.is_over(line) {
-            return Ok(());
-        }
-        input = input.onward(from, inp, line);
-    }
-    Ok(())
 }
 
 fn main(rt: HostRuntime) -> io::Result<()> {
     let mut from = rt.stdin();
     let mut inp = [0u8; 65536];
     let mut out = Outlet::new(rt.stdout());
-    serve(&mut from, &mut inp, &mut out)
+    programs::serve(&mut Texts, &mut from, &mut inp, &mut out)
 }

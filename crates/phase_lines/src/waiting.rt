@@ -1,0 +1,49 @@
+// A descriptor of a script that waits for its phase lines.
+ghost use Rattle.std.specs.Prelude.{◌≡◌};
+ghost use Rattle.phase_lines.specs.Waiting.{waiting_for, waiting_with, meaning_of, meant_in};
+
+use super::Phases;
+use descriptor::{BurstPart, Descriptor, TariffPart};
+use tariff::Phase;
+
+// How many phase lines are missing, the burst part, and the phases that were read.
+#[derive(Clone, Copy, PartialEq, Eq, Debug)]
+pub struct Waiting {
+    pub missing: u32,
+    pub burst: BurstPart,
+    pub phases: Phases,
+}
+
+impl Waiting {
+    // Before the first phase line.
+    pub fn new(missing: u32, burst: BurstPart) -> Waiting
+        ensures { result ≡ waiting_for missing burst }
+    {
+        Waiting {
+            missing,
+            burst,
+            phases: Phases::new(),
+        }
+    }
+
+    // With one more phase line, which may be bad.
+    pub fn with(self, phase: Option<Phase>) -> Waiting
+        ensures { result ≡ waiting_with self phase }
+    {
+        Waiting {
+            missing: self.missing.saturating_sub(1),
+            phases: self.phases.with(phase),
+            ..self
+        }
+    }
+
+    // The descriptor with the phases that were read, unless a line was bad.
+    pub fn descriptor(&self) -> Option<Descriptor<'_>>
+        ensures { meant_in result ≡ meaning_of self.now }
+    {
+        if self.phases.bad {
+            return None;
+        }
+        Some(self.phases.descriptor(TariffPart::Phased, self.burst))
+    }
+}

@@ -1,0 +1,54 @@
+-- The lines of an input that are handed to a program, one after the other, up to the end of the input.
+use Rattle.std.specs.Prelude.{◌≡◌, ◌⊎◌, Bool, true, false, if◌then◌else◌, Option, Some, None, List, [], ℕ, zero, suc}
+use Rattle.lines.specs.declared.Input.{Input}
+use Rattle.lines.specs.declared.Span.{Span}
+use Rattle.lines.specs.Spans.{begun, part, next_of, over_of}
+use Rattle.lines.specs.Reads.{Onward}
+
+-- what was read of an input and not yet taken, the buffer that it lies in, and the program that takes it
+pub record Stand (A : Type 0) : Type 0 where
+  pub input : Input
+  pub buf : List ℕ
+  pub program : A
+
+-- the next line, if there is one
+abbrev pub line_at : {A : Type 0} → Stand A → Option Span
+line_at s = next_of s.buf s.input
+
+-- whether the input has ended and no line is left
+abbrev pub is_over : {A : Type 0} → Stand A → Bool
+is_over s = over_of s.input (line_at s)
+
+-- what is handed over of a line: nothing where it is too long for the buffer
+abbrev pub text_of : List ℕ → Span → List ℕ
+text_of buf line = if line.whole then part line.from line.to buf else []
+
+-- the number up to which steps are counted
+abbrev pub most_steps : ℕ
+most_steps = 18_446_744_073_709_551_615
+
+-- by what a text may make of a program
+module _ {A : Type 0} (reads : A → List ℕ → A → Type 0) where
+  -- a line is handed over; where there is none yet the program stays as it is
+  abbrev pub Handed : List ℕ → Option Span → A → A → Type 0
+  Handed buf (Some line) p q = reads p (text_of buf line) q
+  Handed buf None p q = q ≡ p
+
+  -- the next line is handed over, and the input goes on past it; where there is none yet, more is read
+  pub record Step (s t : Stand A) : Type 0 where
+    pub more : is_over s ≡ false
+    pub handed : Handed s.buf (line_at s) s.program t.program
+    pub onward : Onward (line_at s) s.buf s.input t.buf t.input
+
+  -- n such steps
+  unfoldable pub Steps : ℕ → Stand A → Stand A → Type 0
+  Steps zero s t = t ≡ s
+  Steps (suc n) s t = (m : Stand A) × Steps n s m × Step m t
+
+  -- from the beginning of an input to its end, or for as many steps as are counted
+  pub record Serves (buf : List ℕ) (old new : A) : Type 0 where
+    pub steps : ℕ
+    pub last : Stand A
+    pub taken : Steps steps (record { input = begun; buf = buf; program = old }) last
+    pub ends : (is_over last ≡ true) ⊎ (steps ≡ most_steps)
+    pub program : last.program ≡ new
