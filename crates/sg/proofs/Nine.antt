@@ -8,7 +8,7 @@ use borrow.Author.Tests.{leb-true, eq-eqb, ne_eqb, eqb-true}
 use lib.Dec.{leb, eqb}
 use lib.ListN.{length, take, length-take}
 use lib.Seq.{take_all}
-use Rattle.tariff.proofs.Both.{both_left, both_right}
+use Rattle.std.proofs.lemmas.Bool.{and_parts}
 use Rattle.tariff.specs.Ranges.{within}
 use Rattle.rules.proofs.OnePass.{held-within}
 use Rattle.phase_lists.specs.Lists.{Lists, sound_lists, first_places}
@@ -32,7 +32,7 @@ within_nine l =
 
 module _ (ls : Lists) where
   few : within 1 8 (length ls.pri) ≡ true → length ls.pri ≤ 8
-  few e = leb-true (length ls.pri) 8 (both_right (leb 1 (length ls.pri)) (leb (length ls.pri) 8) e)
+  few e = leb-true (length ls.pri) 8 (and_parts (leb 1 (length ls.pri)) (leb (length ls.pri) 8) e).1
 
   pub sound_nine : sound_lists (first_places ls 9) ≡ sound_lists ls
   unfolding sound_lists
@@ -47,5 +47,5 @@ module _ (ls : Lists) where
   pub nine_whole : sound_lists ls ≡ true → first_places ls 9 ≡ ls
   unfolding sound_lists
   nine_whole e =
-      let w = within 1 8 (length ls.pri) in
-      let n = few (both_left w _ e) in first-all ls 9 (both_right w _ e) (omega arith)
+      let both = and_parts (within 1 8 (length ls.pri)) _ e in
+      let n = few both.0 in first-all ls 9 both.1 (omega arith)
