@@ -1,12 +1,12 @@
 -- What the dispatcher keeps is what a history says, and no line is passed over for long.
 use mathlib.Core.Path.{◌≡◌, refl, sym, ap, subst, fun_ext, ◌∙◌}
-use mathlib.Core.Bool.{Bool, true, false, cond, not, ◌&&◌, ◌||◌, true≢false}
+use mathlib.Core.Bool.{Bool, true, false, cond, ◌&&◌, true≢false}
 use mathlib.Core.List.{List, [], ◌∷◌, ◌++◌, map}
 use Prim.Native.Nat.{ℕ, zero, suc, ◌+◌, min, ◌≤◌, ◌<◌}
 use native.Mathlib.Decide.{dec_lt}
 use native.Mathlib.Omega.{arith}
-use borrow.Author.Tests.{ltb-false, eqb-true, eqb-false}
-use lib.Dec.{ltb, eqb}
+use borrow.Author.Tests.{eqb-true, eqb-false}
+use lib.Dec.{eqb}
 use lib.ListN.{length, get_or, length-set, get_or-map}
 use Rattle.answers.specs.Fronts.{silent}
 use Rattle.answers.specs.declared.Tick.{Tick}
@@ -17,9 +17,9 @@ use Rattle.dispatcher.specs.declared.Notice.{Notice}
 use Rattle.std.specs.Prelude.{Option, Some, None}
 use Rattle.demand.specs.Calls.{Entry}
 use Rattle.card_demand.specs.Card.{CardCall, tick_row, done, sends, refuses, CardEntry, card_entry, told_in}
-use Rattle.card_demand.specs.Reading.{is_tick, one_if, number, lent, row_in, next_in, reported, fell, fallen, serves, since, sent_reports, left, due}
+use Rattle.card_demand.specs.Reading.{is_tick, number, lent, row_in, next_in, reported, fallen, since, sent_reports, left, due}
 use Rattle.card_demand.proofs.Round.{Round, nobody, turn-of, Foremost, going_round_lem, Passed, nearer, passed-few, passed-zero, after-inside}
-use Rattle.card_demand.proofs.Gather.{gather-length, gather-at, cleared_at, fresh_at, one-most, one_up, one-sum, gathered-telling, few-step}
+use Rattle.card_demand.proofs.Gather.{gather-length, gather-at, cleared_at, fresh_at, gathered-telling, few-step}
 
 -- the last ticks of the dispatcher, one after the other, that left the line at place i with something to tell
 unfoldable pub unheard : List CardEntry → ℕ → ℕ
@@ -30,11 +30,7 @@ unheard (e ∷ h) i = cond (is_tick e) (cond (tells (left (e ∷ h) i)) (unheard
 pub since-most : (f : Tick → Bool) (h : List CardEntry) (i : ℕ) → since f h i ≤ fallen f h i
 unfolding since number
 since-most f [] i = omega arith
-since-most f (e ∷ h) i = by (serves e i) (fell f e i) (since-most f h i)
-  where
-    by : (b x : Bool) → since f h i ≤ fallen f h i → cond b 0 (one_if x (since f h i)) ≤ one_if x (fallen f h i)
-    by true x l = omega arith
-    by false x l = one_up x (since f h i) (fallen f h i) l
+since-most f (e ∷ h) i = grind (arith, since-most f h i)
 
 -- a row of n is that of the history, or the history has none
 abbrev pub May : ℕ → ℕ → Type 0
@@ -47,19 +43,7 @@ pub record Row (row n : ℕ) : Type 0 where
   pub may : May row n
 
 pub accepted-row : (row n : ℕ) → wrong_row row n ≡ false → Row row n
-accepted-row row n h = by (eqb n 0) (ltb 64 n) (ltb 0 row) (eqb n row) refl refl refl refl h
-  where
-    by : (p q r s : Bool) → eqb n 0 ≡ p → ltb 64 n ≡ q → ltb 0 row ≡ r → eqb n row ≡ s → ((p || q) || (r && not s)) ≡ false → Row row n
-    by true q r s e f g k h = absurd (true≢false h)
-    by false true r s e f g k h = absurd (true≢false h)
-    by false false true false e f g k h = absurd (true≢false h)
-    by false false true true e f g k h =
-        let z = eqb-false n 0 e in
-        record { some-line = omega arith; most = ltb-false 64 n f; may = λ l. sym (eqb-true n row k) }
-    by false false false s e f g k h =
-        let z = eqb-false n 0 e in
-        let o = ltb-false 0 row g in
-        record { some-line = omega arith; most = ltb-false 64 n f; may = λ l. absurd (omega arith) }
+accepted-row row n h = record { some-line = grind arith; most = grind arith; may = λ l. grind arith }
 
 -- the first row stays
 pub row_stays : (N : ℕ) (after h : List CardEntry) → 0 < row_in N h → row_in N (after ++ h) ≡ row_in N h
@@ -73,13 +57,6 @@ row_stays N (e ∷ after) h l =
     by true true x q = absurd (omega (arith, eqb-true (row_in N (after ++ h)) 0 x))
     by true false x q = q
     by false b x q = q
-
-row_now : (row n : ℕ) → May row n → cond (eqb row 0) n row ≡ n
-row_now row n may = by (eqb row 0) refl
-  where
-    by : (b : Bool) → eqb row 0 ≡ b → cond b n row ≡ n
-    by true e = refl
-    by false e = let z = eqb-false row 0 e in may (omega arith)
 
 -- on a card of N lines
 module _ (N : ℕ) where
@@ -157,7 +134,7 @@ module _ (N : ℕ) where
 
     row_is : (s : Option Notice) → row_in N (e s ∷ h) ≡ n
     unfolding row_in
-    row_is s = row_now (row_in N h) n ok.may
+    row_is s = grind (arith, ok.may)
 
     told_at_lem : (i : ℕ) → get_or (map told_in rows) i silent ≡ told_in (get_or rows i [])
     told_at_lem i = get_or-map told_in rows i []
@@ -176,7 +153,7 @@ module _ (N : ℕ) where
         ∙ rw (k.waits i, told_at_lem i) (gathered-telling (λ f. since f h i) (told_in (get_or rows i [])) (room i))
 
     few-due : (i : ℕ) → (w i).reports ≤ unheard h i + 1
-    few-due i = omega (arith, k.few i, one-most (told_in (get_or rows i [])).report (since reported h i))
+    few-due i = grind (arith, k.few i)
 
     none-outside : (s : Option Notice) (f : Tick → Bool) → f silent ≡ false → (i : ℕ) → row_in N (e s ∷ h) ≤ i → fallen f (e s ∷ h) i ≡ 0
     unfolding number
@@ -201,7 +178,7 @@ module _ (N : ℕ) where
           let same : n ≡ n' = sym (row_is None) ∙ q in
           rw (no_one i (omega arith)) (passed-zero n' (next_in N h) i (rw (← same) (k.passed n i ok.may (omega arith)).next) l);
       outside = none-outside None;
-      sum = λ i. one-sum (fell reported (e None) i) (fallen reported h i) (sent_reports h i) (since reported h i) (k.sum i);
+      sum = λ i. grind (arith, k.sum i);
     }
 
     -- a notice of place j
@@ -235,11 +212,9 @@ module _ (N : ℕ) where
       unfolding number sent_reports since
       sum-at i true q =
           let y : (w i).reports ≡ (w j).reports = ap (λ (y : ℕ). (w y).reports) (eqb-true i j q) in
-          let z = one-sum (fell reported x i) (fallen reported h i) (sent_reports h i) (since reported h i) (k.sum i) in
-          rw q (omega arith)
+          rw q (grind (arith, y, k.sum i))
       sum-at i false q =
-          let z = one-sum (fell reported x i) (fallen reported h i) (sent_reports h i) (since reported h i) (k.sum i) in
-          rw q (omega arith)
+          rw q (grind (arith, k.sum i))
 
       next-is : next_in N (x ∷ h) ≡ place_after n j
       unfolding next_in
