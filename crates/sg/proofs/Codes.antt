@@ -5,12 +5,12 @@ use native.Mathlib.Omega.{arith}
 use mathlib.Core.Bool.{Bool, true, false, cond, ◌&&◌, true≢false as no}
 use mathlib.Core.List.{List, [], ◌∷◌, ◌++◌, append-nil, append_assoc}
 use mathlib.Core.Path.{◌≡◌, refl, sym, ap, ◌∙◌}
-use borrow.Author.Tests.{leb-true, ltb-true, eqb-true, eq-eqb}
-use lib.Dec.{leb, ltb, eqb}
+use borrow.Author.Tests.{ltb-true, eqb-true, eq-eqb}
+use lib.Dec.{ltb, eqb}
 use Rattle.std.proofs.lemmas.Bool.{and_parts}
 use Rattle.std.proofs.lemmas.Bool.Decides.{same_from_decides}
 use Rattle.std.proofs.lemmas.Slice.Eq.{bytes_eq-Decides}
-use Rattle.grammar.specs.Grammar.{bytes, same, is_small, Small, Digit, Name, letter, letters, Digits, digit, digits}
+use Rattle.grammar.specs.Grammar.{bytes, same, is_small, Small, Name, letter, letters, Digits, digit, digits}
 use Rattle.grammar.specs.Meaning.{Known, ◌↣◌, slot_in as named_slot, known_signals, em_items, mpb_items, phsm_items, items_of, decimal_after, decimal_of, signal_slot as signal_named, item_slot as item_named}
 use Rattle.scanner.specs.Codes.{code_after, code_of, number_after, number_of, next_letter, next_digit}
 use Rattle.notes.specs.Noting.{slot_in, signal_slot, item_slot}
@@ -44,43 +44,28 @@ code-plain (letter {b} h) = capped 0 0 b (omega arith)
 code-plain (letters {w} {b} k h) =
     code-more 0 w b ∙ capped (code_of w) (plain w) b (code-plain k) ∙ ap (λ (p : ℕ). min p 1_099_511_627_776) (sym (plain_more 0 w b))
 
-record Within (b : ℕ) : Type 0 where
-  low : 97 ≤ b
-  high : b ≤ 122
-
-within : {b : ℕ} → Small b → Within b
-within {b} h =
-    let both = and_parts (leb 97 b) (leb b 122) h.test in
-    record { low = leb-true 97 b both.0; high = leb-true b 122 both.1 }
-
 plain-some : {w : List ℕ} → Name w → 0 < plain w
 unfolding plain plain_after
-plain-some (letter {b} h) = let i = within h in omega arith
-plain-some (letters {w} {b} k h) = let i = within h in rw (plain_more 0 w b) (omega arith)
+plain-some (letter {b} h) = grind (arith, h.test)
+plain-some (letters {w} {b} k h) = rw (plain_more 0 w b) (grind (arith, h.test))
 
 plain-tells : {w v : List ℕ} → Name w → Name v → plain w ≡ plain v → w ≡ v
 unfolding plain plain_after
 plain-tells (letter {b} h) (letter {b = c} k) e =
-    let i = within h in
-    let j = within k in
-    let q : b ≡ c = omega arith in
+    let q : b ≡ c = grind (arith, h.test, k.test) in
     ap (λ (x : ℕ). x ∷ []) q
 plain-tells (letter {b} h) (letters {w = v} {b = c} l k) e =
-    let i = within h in
     let s = plain-some l in
     let f : 32 * 0 + b % 32 ≡ 32 * plain v + c % 32 = e ∙ plain_more 0 v c in
-    absurd (omega arith)
+    absurd (grind (arith, h.test))
 plain-tells (letters {w} {b} l h) (letter {b = c} k) e =
-    let i = within k in
     let s = plain-some l in
     let f : 32 * plain w + b % 32 ≡ 32 * 0 + c % 32 = sym (plain_more 0 w b) ∙ e in
-    absurd (omega arith)
+    absurd (grind (arith, k.test))
 plain-tells (letters {w} {b} l h) (letters {w = v} {b = c} m k) e =
-    let i = within h in
-    let j = within k in
     let f : 32 * plain w + b % 32 ≡ 32 * plain v + c % 32 = sym (plain_more 0 w b) ∙ e ∙ plain_more 0 v c in
     let g : plain w ≡ plain v = omega arith in
-    let q : b ≡ c = omega arith in
+    let q : b ≡ c = grind (arith, h.test, k.test) in
     let r = plain-tells l m g in
     cc
 
@@ -163,28 +148,17 @@ decimal-more : (c : ℕ) (w : List ℕ) (b : ℕ) → decimal_after c (w ++ (b �
 decimal-more c [] b = refl
 decimal-more c (a ∷ w) b = decimal-more (10 * c + (a - 48)) w b
 
-module _ {b : ℕ} (h : Digit b) where
-  digit-least : 48 ≤ b
-  digit-least = leb-true 48 b (and_parts (leb 48 b) (leb b 57) h.test).0
-
-  digit-most : b ≤ 57
-  digit-most = leb-true b 57 (and_parts (leb 48 b) (leb b 57) h.test).1
-
 decimal-below : {n : ℕ} {w : List ℕ} → Digits n w → decimal_of w < 10 ^ n
-decimal-below (digit {b} h) = let i = digit-least h in let j = digit-most h in omega arith
+decimal-below (digit {b} h) = grind (arith, h.test)
 decimal-below (digits {n} {w} {b} k h) =
-    let i = digit-least h in
-    let j = digit-most h in
     let l = decimal-below k in
-    rw (decimal-more 0 w b, pow-succ' 10 n) (omega arith)
+    rw (decimal-more 0 w b, pow-succ' 10 n) (grind (arith, h.test))
 
 -- fewer than ten digits leave room for one more
 pub number-value : {n : ℕ} {w : List ℕ} → Digits n w → n ≤ 10 → number_of w ≡ decimal_of w
-number-value (digit {b} h) few = let i = digit-least h in let j = digit-most h in omega arith
+number-value (digit {b} h) few = grind (arith, h.test)
 number-value (digits {n} {w} {b} k h) few =
-    let i = digit-least h in
-    let j = digit-most h in
     let l = decimal-below k in
     let m : 10 ^ n ≤ 10 ^ 9 = pow-le-pow_right {n = 10} (omega arith) {i = n} {j = 9} (omega arith) in
     let e = number-value k (omega arith) in
-    rw (number_more 0 w b, decimal-more 0 w b, e) (omega arith)
+    rw (number_more 0 w b, decimal-more 0 w b, e) (grind (arith, h.test))
