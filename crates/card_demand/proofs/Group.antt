@@ -21,12 +21,12 @@ use Rattle.group.specs.Groups.{rate_of, named, outside, first_refusal, verdict_o
 use Rattle.group.proofs.RateLaws.{rate-cancels}
 use Rattle.demand.specs.Calls.{Answer, accepted, Entry}
 use Rattle.demand.specs.Machine.{verdict_told, step, entry_for, Past, past, after_calls, entries, history}
-use Rattle.demand.proofs.Demand.{demand3}
+use Rattle.demand.proofs.Demand.{demand3, calls_append}
 use Rattle.card_demand.specs.Card.{group, CardReply, done, refuses, CardEntry, card_entry, calls_at, rate, row_after, Making, made}
 use Rattle.card_demand.specs.Reading.{line_calls, line_history}
 use Rattle.card_demand.specs.Claims.{no_making, AllSound, refusal_else, first_refused, rate_reply, TookRate, GotNone, answered_after, GroupDemand}
 use Rattle.card_demand.specs.Lending.{group_reply}
-use Rattle.card_demand.proofs.Rows.{calls_append, row_at, row-none}
+use Rattle.card_demand.proofs.Rows.{row_at, row-none}
 
 -- ---- places of a list
 -- a place named is one of the list

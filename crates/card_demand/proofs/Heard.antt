@@ -18,7 +18,7 @@ use Rattle.card_demand.specs.Card.{CardCall, CardReply, done, sends, refuses, Ca
 use Rattle.card_demand.specs.Reading.{is_tick, one_if, number, row_ticks, row_length, next_in, tariff_done, burst_done, reported, fell, fallen, since, left, due}
 use Rattle.card_demand.specs.Claims.{HeardWithin}
 use Rattle.card_demand.proofs.Round.{passed-few}
-use Rattle.card_demand.proofs.Gather.{one-least, one-most, one_up, tells_more}
+use Rattle.card_demand.proofs.Gather.{tells_more}
 use Rattle.card_demand.proofs.Kept.{unheard, since-most, may-stay}
 use Rattle.card_demand.proofs.Run.{Run, more, good}
 
@@ -43,7 +43,7 @@ at_entry : (i : ℕ) (e : CardEntry) (h : List CardEntry) → tells (due e h i) 
 at_entry i e h t = at-reply i e.call e.reply e.rows h t
 
 still-due : (i : ℕ) (e : CardEntry) (h : List CardEntry) → tells (left h i) ≡ true → tells (due e h i) ≡ true
-still-due i e h t = tells_more (λ f. since f h i) (λ f. one_if (fell f e i) (since f h i)) (λ f. one-least (fell f e i) (since f h i)) t
+still-due i e h t = tells_more (λ f. since f h i) (λ f. one_if (fell f e i) (since f h i)) (λ f. grind arith) t
 
 module _ (ms : List Making) (i : ℕ) (e₀ : CardEntry) (before : List CardEntry) where
   abbrev N : ℕ
@@ -59,7 +59,7 @@ module _ (ms : List Making) (i : ℕ) (e₀ : CardEntry) (before : List CardEntr
   none-due r l f q = by ((good ms r).kept.outside f q i l)
     where
       by : one_if (fell f e₀ i) (fallen f before i) ≡ 0 → one_if (fell f e₀ i) (since f before i) ≡ 0
-      by z = omega (arith, one_up (fell f e₀ i) (since f before i) (fallen f before i) (since-most f before i))
+      by z = grind (arith, since-most f before i)
 
   inside : {k : Card} → Run ms (e₀ ∷ before) k → tells (due e₀ before i) ≡ true → i < n
   inside r t = by (dec_lt i n)
@@ -83,15 +83,15 @@ module _ (ms : List Making) (i : ℕ) (e₀ : CardEntry) (before : List CardEntr
 
     first : At i e₀ before → Until []
     unfolding number
-    first (hears w q) = heard_in ([], [], e₀, w, refl, q, omega (arith, one-most (is_tick e₀) 0))
-    first (passes t u) = not_yet t (omega (arith, u, one_up (is_tick e₀) 0 (unheard before i) (omega arith)))
+    first (hears w q) = heard_in ([], [], e₀, w, refl, q, grind arith)
+    first (passes t u) = not_yet t (grind (arith, u))
 
     next-entry : (x : CardEntry) (rest : List CardEntry) → At i x (rest ++ (e₀ ∷ before)) → row_ticks (rest ++ (e₀ ∷ [])) ≤ unheard (rest ++ (e₀ ∷ before)) i →
         unheard (rest ++ (e₀ ∷ before)) i < n → Until (x ∷ rest)
     unfolding number
-    next-entry x rest (hears w q) u v = heard_in ([], rest ++ (e₀ ∷ []), x, w, refl, q, omega (arith, one-most (is_tick x) (row_ticks (rest ++ (e₀ ∷ [])))))
+    next-entry x rest (hears w q) u v = heard_in ([], rest ++ (e₀ ∷ []), x, w, refl, q, grind arith)
     next-entry x rest (passes t y) u v =
-        not_yet t (omega (arith, y, one_up (is_tick x) (row_ticks (rest ++ (e₀ ∷ []))) (unheard (rest ++ (e₀ ∷ before)) i) u))
+        not_yet t (grind (arith, y, u))
 
     next : (x : CardEntry) (rest : List CardEntry) → unheard (rest ++ (e₀ ∷ before)) i < n → Until rest → Until (x ∷ rest)
     next x rest v (heard_in y) = heard_in (x ∷ y.0, y.1, y.2, y.3, ap (λ (l : List CardEntry). x ∷ l) y.4, y.5, y.6)

@@ -1,12 +1,12 @@
 -- What the dispatcher keeps is what a history says, and no line is passed over for long.
 use mathlib.Core.Path.{◌≡◌, refl, sym, ap, subst, fun_ext, ◌∙◌}
-use mathlib.Core.Bool.{Bool, true, false, cond, not, ◌&&◌, ◌||◌, true≢false}
+use mathlib.Core.Bool.{Bool, true, false, cond, ◌&&◌, true≢false}
 use mathlib.Core.List.{List, [], ◌∷◌, ◌++◌, map}
 use Prim.Native.Nat.{ℕ, zero, suc, ◌+◌, min, ◌≤◌, ◌<◌}
 use native.Mathlib.Decide.{dec_lt}
 use native.Mathlib.Omega.{arith}
-use borrow.Author.Tests.{ltb-false, eqb-true, eqb-false}
-use lib.Dec.{ltb, eqb}
+use borrow.Author.Tests.{eqb-true, eqb-false}
+use lib.Dec.{eqb}
 use lib.ListN.{length, get_or, length-set, get_or-map}
 use Rattle.answers.specs.Fronts.{silent}
 use Rattle.answers.specs.declared.Tick.{Tick}
@@ -20,7 +20,7 @@ use Rattle.demand.specs.Calls.{Entry}
 use Rattle.card_demand.specs.Card.{CardCall, tick_row, done, sends, refuses, CardEntry, card_entry, told_in}
 use Rattle.card_demand.specs.Reading.{is_tick, one_if, number, lent, row_in, row_length, next_in, reported, fell, fallen, serves, since, sent_reports, left, due}
 use Rattle.card_demand.proofs.Round.{Round, nobody, turn-of, Foremost, going_round_lem, Passed, nearer, passed-few, passed-zero, after-inside}
-use Rattle.card_demand.proofs.Gather.{gather-length, gather-at, cleared_at, fresh_at, one-most, one_up, one-sum, gathered-telling, few-step}
+use Rattle.card_demand.proofs.Gather.{gather-length, gather-at, cleared_at, fresh_at, gathered-telling, few-step}
 
 -- the last ticks of the dispatcher, one after the other, that left the line at place i with something to tell
 unfoldable pub unheard : List CardEntry → ℕ → ℕ
@@ -31,11 +31,7 @@ unheard (e ∷ h) i = cond (is_tick e) (cond (tells (left (e ∷ h) i)) (unheard
 pub since-most : (f : Tick → Bool) (h : List CardEntry) (i : ℕ) → since f h i ≤ fallen f h i
 unfolding since number
 since-most f [] i = omega arith
-since-most f (e ∷ h) i = by (serves e i) (fell f e i) (since-most f h i)
-  where
-    by : (b x : Bool) → since f h i ≤ fallen f h i → cond b 0 (one_if x (since f h i)) ≤ one_if x (fallen f h i)
-    by true x l = omega arith
-    by false x l = one_up x (since f h i) (fallen f h i) l
+since-most f (e ∷ h) i = grind (arith, since-most f h i)
 
 -- a row of n is that of the history, or the history has none
 abbrev pub May : Option ℕ → ℕ → Type 0
@@ -190,7 +186,7 @@ module _ (N : ℕ) where
         ∙ rw (k.waits i, told_at_lem i) (gathered-telling (λ f. since f h i) (told_in (get_or rows i [])) (room i))
 
     few-due : (i : ℕ) → (w i).reports ≤ unheard h i + 1
-    few-due i = omega (arith, k.few i, one-most (told_in (get_or rows i [])).report (since reported h i))
+    few-due i = grind (arith, k.few i)
 
     none-outside : (s : Option Notice) (f : Tick → Bool) → f silent ≡ false → (i : ℕ) → row_length N (e s ∷ h) ≤ i → fallen f (e s ∷ h) i ≡ 0
     unfolding number
@@ -214,7 +210,7 @@ module _ (N : ℕ) where
           let same : n ≡ n' = subst (λ (r : Option ℕ). May r n') (row_is None) may in
           rw (no_one i (omega arith)) (passed-zero n' (next_in N h) i (rw (← same) (k.passed n i ok.may (omega arith)).next) l);
       outside = none-outside None;
-      sum = λ i. one-sum (fell reported (e None) i) (fallen reported h i) (sent_reports h i) (since reported h i) (k.sum i);
+      sum = λ i. grind (arith, k.sum i);
     }
 
     -- a notice of place j
@@ -248,11 +244,9 @@ module _ (N : ℕ) where
       unfolding number sent_reports since
       sum-at i true q =
           let y : (w i).reports ≡ (w j).reports = ap (λ (y : ℕ). (w y).reports) (eqb-true i j q) in
-          let z = one-sum (fell reported x i) (fallen reported h i) (sent_reports h i) (since reported h i) (k.sum i) in
-          rw q (omega arith)
+          rw q (grind (arith, y, k.sum i))
       sum-at i false q =
-          let z = one-sum (fell reported x i) (fallen reported h i) (sent_reports h i) (since reported h i) (k.sum i) in
-          rw q (omega arith)
+          rw q (grind (arith, k.sum i))
 
       next-is : next_in N (x ∷ h) ≡ place_after n j
       unfolding next_in

@@ -29,11 +29,6 @@ unfolding after_calls
 calls-on-top [] h l = refl
 calls-on-top (c ∷ cs) h l = step-on-top h c cs (calls-on-top cs) (step l c)
 
-pub calls_append : (p : Past) (cs ds : List Call) → after_calls p (cs ++ ds) ≡ after_calls (after_calls p cs) ds
-unfolding after_calls
-calls_append p [] ds = refl
-calls_append (past h l) (c ∷ cs) ds = calls_append (noted h c (step l c)) cs ds
-
 -- ---- the row
 row-length : (f : ℕ → List Call) (ls : List Line) → length (row_after f ls) ≡ length ls
 unfolding row_after

@@ -20,7 +20,8 @@ use Rattle.card_demand.specs.Card.{CardCall, on_line, tick_row, group, done, sen
 use Rattle.card_demand.specs.Card.{Stepped, step_by, card_step, CardPast, after_card_call, after_card_calls, Making, made, fresh_card, card_past, card_history}
 use Rattle.card_demand.specs.Reading.{line_calls, line_history, row_in, next_in, due}
 use Rattle.card_demand.specs.Claims.{no_making, AllSound, GroupDemand}
-use Rattle.card_demand.proofs.Rows.{on_top, calls-on-top, calls_append, row_at, row-none, row-past, lines-length}
+use Rattle.demand.proofs.Demand.{calls_append}
+use Rattle.card_demand.proofs.Rows.{on_top, calls-on-top, row_at, row-none, row-past, lines-length}
 use Rattle.card_demand.proofs.Kept.{Kept, accepted-row, kept_fresh, kept-done, kept-refused, sent_is, kept-tick}
 use Rattle.card_demand.proofs.Group.{group-refused, group-taken}
 

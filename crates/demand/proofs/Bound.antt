@@ -20,7 +20,6 @@ use Rattle.demand.specs.History.{granted, front_of, sum, ticks, begun, burst_in,
 use Rattle.demand.specs.Machine.{entry_for, outcome, step}
 use Rattle.demand.specs.Demand.{is_fresh, before_last, fresh_before, cancels_before, deadline, LastBegins}
 use Rattle.slots.proofs.Ahead.{next_of}
-use Rattle.demand.proofs.Counts.{ticks-most}
 use Rattle.demand.proofs.Coupled.{Config, BurstAt, runs, line_at, Coupled}
 use Rattle.demand.proofs.Potential.{Within, late, positive, replaced, stopped, pulse-slot, empty-slot, waits}
 use Rattle.demand.proofs.Effects.{is_none, Effect, cancels, stays, stops, begins, waiting, empty-due, pulse-due, burst-due, effect}
@@ -268,4 +267,4 @@ module _ (D S clock : ℕ) (cfg : Config D S) (small : clock < 2 ^ 32) where
           (x.after, x.until, x.front, x.split, x.burst, x.last, soon_by x)
         where
           soon_by : (x : Found n rest) → ticks (x.front ∷ x.until) ≤ deadline S n P (fresh_before n rest)
-          soon_by x = omega (arith, ticks-most (granted x.front).tick (ticks x.until), in_time x)
+          soon_by x = grind (arith, in_time x)

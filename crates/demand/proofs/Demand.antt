@@ -56,11 +56,11 @@ made : (D G clock : ℕ) → sound_configuration D G ≡ true → (make_of D G c
 unfolding make_of
 made D G clock h = rw h
 
--- ---- a call at the end of a list
-calls_end : (p : Past) (cs : List Call) (c : Call) → after_calls p (cs ++ (c ∷ [])) ≡ after_call (after_calls p cs) c
+-- ---- calls at the end of a list
+pub calls_append : (p : Past) (cs ds : List Call) → after_calls p (cs ++ ds) ≡ after_calls (after_calls p cs) ds
 unfolding after_calls
-calls_end p [] c = refl
-calls_end p (d ∷ cs) c = calls_end (after_call p d) cs c
+calls_append p [] ds = refl
+calls_append p (c ∷ cs) ds = calls_append (after_call p c) cs ds
 
 module _ (D S clock : ℕ) (cfg : Config D S) (small : clock < 2 ^ 32) where
   abbrev Ends : List Entry → Call → Past → Type 0
@@ -87,9 +87,9 @@ module _ (D G clock : ℕ) (sound : sound_configuration D G ≡ true) (small : c
   run-part a h e = cut D S clock cfg a h (rw e at run.1)
 
   end_answers : (c : Call) → EndAnswers D G clock cs c (answer_after D S (history D G clock cs) c)
-  unfolding history
+  unfolding history after_calls
   end_answers c =
-      rw (made D G clock sound, calls_end (past [] (fresh_line D S clock)) cs c)
+      rw (made D G clock sound, calls_append (past [] (fresh_line D S clock)) cs (c ∷ []))
       (call_end D S clock cfg small (after_calls (past [] (fresh_line D S clock)) cs) c (run-history D S clock cfg cs))
 
   stop-answers : EndAnswers D G clock cs (hook Stop) (accepted (owed (history D G clock cs)))

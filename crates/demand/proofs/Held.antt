@@ -1,21 +1,15 @@
 -- Ticks since the last front, held at a number: what a line keeps of a distance, against what its history says.
 use mathlib.Core.Path.{◌≡◌}
 use Prim.Native.Nat.{ℕ, suc, ◌+◌, ◌-◌, min, max, ◌≤◌}
-use native.Mathlib.Decide.{dec_le}
 use native.Mathlib.Omega.{arith}
-use borrow.Author.Tests.{le-leb, lt-leb, le-ltb}
+use borrow.Author.Tests.{le-leb, le-ltb}
 use lib.Dec.{leb, ltb}
 use Rattle.burst.specs.Bursts.{held_more}
 use Rattle.demand.specs.History.{Last, never, at, passed, pulse_on, origin_after}
 
 -- two tests that stand for the same fact are equal
 pub same_le : (a b c d : ℕ) → (a ≤ b → c ≤ d) → (c ≤ d → a ≤ b) → leb a b ≡ leb c d
-same_le a b c d f g = by (dec_le a b) (dec_le c d)
-  where
-    by : Dec (a ≤ b) → Dec (c ≤ d) → leb a b ≡ leb c d
-    by (yes p) q = rw (le-leb a b p, le-leb c d (f p))
-    by (no p) (yes q) = absurd (p (g q))
-    by (no p) (no q) = rw (lt-leb a b (omega arith), lt-leb c d (omega arith))
+same_le a b c d f g = grind arith
 
 -- n where there was no front: with no earlier front a distance asks nothing
 abbrev pub held_since : ℕ → Last → ℕ → ℕ

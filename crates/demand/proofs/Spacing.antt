@@ -17,14 +17,14 @@ use Rattle.std.specs.Prelude.{Ok, Err, Option, None, Some}
 use Rattle.ticking.specs.Rules.{front_at}
 use Rattle.line.specs.declared.Line.{Line}
 use Rattle.demand.specs.Calls.{Call, Answer, Entry, Asked, asks}
-use Rattle.demand.specs.History.{unless_refused, granted, told, front_of, ticks, Last, at, passed, last_front, burst_in, burst_ready, running}
+use Rattle.demand.specs.History.{unless_refused, told, front_of, ticks, Last, at, passed, last_front, burst_in, burst_ready, running}
 use Rattle.demand.specs.Answers.{burst_may_start}
 use Rattle.slots.proofs.Ahead.{Waits}
 use Rattle.slots.proofs.Agree.{Next, waits, empty, pulse}
 use Rattle.slots.proofs.Tick.{next-step}
 use Rattle.slots.proofs.Coupling.{agree-now}
 use Rattle.demand.proofs.Held.{held_since, before_more, held_more_lem, held-passed}
-use Rattle.demand.proofs.Counts.{ticks-least, ticks-most, ticks_append}
+use Rattle.demand.proofs.Counts.{ticks_append}
 use Rattle.demand.proofs.Coupled.{Config, line_at, Coupled}
 use Rattle.demand.proofs.AnswerKinds.{Kind, to_command, to_ask, to_audit, to_tick, kind}
 use Rattle.demand.proofs.Run.{Run, more, coupled, answer-right}
@@ -74,7 +74,7 @@ module _ (D S clock : ℕ) (cfg : Config D S) where
     last-from (x ∷ between) before e f = by (front_of x) (last-from between before e f)
       where
         later : ticks before + 1 ≤ ticks (between ++ (e ∷ before)) + 1
-        later = omega (arith, ticks_append between (e ∷ before), ticks-least (granted e).tick (ticks before))
+        later = grind (arith, ticks_append between (e ∷ before))
 
         by : (y : Option Front) → (u : ℕ) × (last_front (between ++ (e ∷ before)) ≡ at u) × (ticks before + 1 ≤ u) → (u : ℕ) × (if_front y (at (ticks (between ++ (e ∷ before)) + 1)) (last_front (between ++ (e ∷ before))) ≡ at u) × (ticks before + 1 ≤ u)
         by None (u, p, q) = (u, p, q)
@@ -90,4 +90,4 @@ module _ (D S clock : ℕ) (cfg : Config D S) where
         let now = front-passed (between ++ (e ∷ before)) (coupled D S clock cfg small r) c a (kind D S (between ++ (e ∷ before)) c (answer-right D S clock cfg small (more r q))) p in
         let last = last-from between before e o in
         let far = at-passed S last.0 (ticks (between ++ (e ∷ before)) + 1) (last_front (between ++ (e ∷ before))) last.1 now.0 in
-        rw now.1 (omega (arith, last.2, ticks_append between (e ∷ before), ticks-most (granted e).tick (ticks before)))
+        rw now.1 (grind (arith, last.2, ticks_append between (e ∷ before)))

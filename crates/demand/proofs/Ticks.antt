@@ -5,7 +5,6 @@ use mathlib.Core.Bool.{Bool, true, false, cond, ◌&&◌, ◌||◌, and-eq-true_
 use mathlib.Core.List.{List}
 use Prim.Native.Nat.{ℕ, ◌+◌, ◌-◌, ◌%◌, ◌^◌, ◌≤◌}
 use native.Mathlib.Omega.{arith}
-use borrow.Author.Tests.{leb-true, eqb-true}
 use lib.Dec.{leb, eqb}
 use Rattle.answers.specs.Fronts.{if_front, if_burst}
 use Rattle.answers.specs.declared.Front.{Front}
@@ -54,11 +53,7 @@ count-is cpc pcslr rp = by (report_due rp (one_more pcslr))
 
 -- no slot is left, or the next is far enough
 room_says : (S v : ℕ) → (eqb v 0 || leb S v) ≡ true → (v ≡ 0 → ⊥) → S ≤ v
-room_says S v h z = by (eqb v 0) refl
-  where
-    by : (x : Bool) → eqb v 0 ≡ x → S ≤ v
-    by true e = absurd (z (eqb-true v 0 e))
-    by false e = leb-true S v (rw e at h)
+room_says S v h z = grind arith
 
 module _ (D S clock : ℕ) (cfg : Config D S) where
   -- what a tick after i others tells, by what the history says before it

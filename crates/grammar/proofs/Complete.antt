@@ -4,9 +4,7 @@ use native.Mathlib.Omega.{arith}
 use mathlib.Core.Bool.{Bool, true, false, true≢false as no}
 use mathlib.Core.List.{List, [], ◌∷◌, ◌++◌}
 use mathlib.Core.Path.{◌≡◌, refl, ap, ◌∙◌}
-use borrow.Author.Tests.{leb-true, lt-leb, lt-ltb}
-use lib.Dec.{leb}
-use Rattle.tariff.proofs.Both.{both_right}
+use borrow.Author.Tests.{lt-leb, lt-ltb}
 use Rattle.grammar.specs.Grammar.{Row, none, ◌▹◌, single, list, Item, keep, valued, Signal, bare, braced, Text, empty, signals, Piece, SG, amet/, KA, opens, shuts, from, to, comma, equals, name, number, bytes, commas, with_number, with_item, with_signal, head, pieces_of, Small, Digit, Name, letter, letters, Digits, digit, digits, Spelled, a-SG, an-amet/, a-KA, a_brace, a-closing_brace, a_bracket, a-closing_bracket, a_comma, an_equals, a-name, a-number, Blanks, no-blank, blank, Spaced, first, next, Says}
 use Rattle.grammar.specs.Reader.{Read, nothing, begun, to_signal, to_name, named, to_item, item_named, to_value, item_read, to_number, number_read, signal_read, whole, wrong, feed, Scan, fresh, gap, in_sg, in_ka, in_name, in_number, closed, class_of, on_blank, spaced, scan, scans, digit as digit-class, small as small-class}
 
@@ -199,9 +197,7 @@ pub small_byte : {b : ℕ} → Small b → class_of b ≡ small-class
 small_byte h = rw h.test
 
 pub digit_byte : {b : ℕ} → Digit b → class_of b ≡ digit-class
-digit_byte {b} h =
-    let low : b ≤ 57 = leb-true b 57 (both_right (leb 48 b) (leb b 57) h.test) in
-    rw (lt-leb 97 b (omega arith), h.test)
+digit_byte {b} h = rw (lt-leb 97 b (grind (arith, h.test)), h.test)
 
 pub scans_append : (s : Scan) (a b : List ℕ) → scans s (a ++ b) ≡ scans (scans s a) b
 scans_append s [] b = refl

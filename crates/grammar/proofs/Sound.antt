@@ -5,6 +5,7 @@ use mathlib.Core.Bool.{Bool, true, false, cond, true≢false as no}
 use mathlib.Core.List.{List, [], ◌∷◌, ◌++◌, append_assoc, append-nil}
 use mathlib.Core.Path.{◌≡◌, refl, sym, ap, ◌∙◌}
 use borrow.Author.Tests.{eqb-true, ltb-true}
+use Rattle.std.proofs.lemmas.Slice.Eq.{bytes_eq-Decides}
 use lib.Dec.{ltb, eqb}
 use Rattle.grammar.specs.Grammar.{Row, none, ◌▹◌, Item, Signal, Text, Piece, SG, amet/, KA, opens, shuts, from, to, comma, equals, name, number, bytes, is_small, is_digit, commas, with_number, with_item, with_signal, head, pieces_of, Small, Digit, Name, letter, letters, Digits, digit, digits, Spelled, a-SG, an-amet/, a-KA, a_brace, a-closing_brace, a_bracket, a-closing_bracket, a_comma, an_equals, a-name, a-number, Blanks, no-blank, blank, Spaced, first, next, Says, same}
 use Rattle.grammar.specs.Reader.{Read, nothing, begun, to_signal, to_name, named, to_item, item_named, to_value, item_read, to_number, number_read, signal_read, whole, wrong, kind_of, word_of, Option, ◌⇒◌, options, choose, feed, Scan, fresh, gap, in_sg, in_ka, in_name, in_number, closed, Class, small, digit as digit-class, blank as blank-class, slash, S, G, K, A, other, mark, class_of, on_class, on_small, on_digit, on_blank, on_slash, on_g, on_a, spaced, scan, scans}
@@ -332,16 +333,6 @@ a-digit {b = b} (past-digit {r} {n} {l} {w} k m i) h = at (ltb n 10) refl
     at true e = let j = ltb-true n 10 e in rw append_assoc (past-digit k (digits m h) (omega arith))
     at false e = lost lost-gap
 
-pub same_word : (w v : List ℕ) → same w v ≡ true → w ≡ v
-same_word [] [] e = refl
-same_word [] (b ∷ v) e = absurd (no (sym e))
-same_word (a ∷ w) [] e = absurd (no (sym e))
-same_word (a ∷ w) (b ∷ v) e = at (eqb a b) refl (same_word w v) e
-  where
-    at : (t : Bool) → eqb a b ≡ t → (same w v ≡ true → w ≡ v) → cond t (same w v) false ≡ true → a ∷ w ≡ b ∷ v
-    at true q g f = let x = eqb-true a b q in let y = g f in cc
-    at false q g f = absurd (no (sym f))
-
 a_slash : {s : Scan} {l : List ℕ} → Reached s l → Reached (on_slash s) (l ++ (47 ∷ []))
 a_slash at-start = lost lost-gap
 a_slash (lost lost-gap) = lost lost-gap
@@ -360,7 +351,7 @@ a_slash (past-K k) = lost lost-gap
 a_slash (past-letter {r} {l} {w} k m) = at (same w (bytes "amet")) refl
   where
     at : (t : Bool) → same w (bytes "amet") ≡ t → Reached (gap (cond t (feed r amet/) wrong)) ((l ++ w) ++ (47 ∷ []))
-    at true e = rw (same_word w (bytes "amet") e, append_assoc) (whole-piece r k an-amet/)
+    at true e = rw ((bytes_eq-Decides w (bytes "amet")).0 e, append_assoc) (whole-piece r k an-amet/)
     at false e = lost lost-gap
 a_slash (past-digit k m i) = lost lost-gap
 

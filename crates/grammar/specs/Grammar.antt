@@ -1,5 +1,6 @@
 -- The grammar of the texts that controllers send: what a text says, its pieces, and how they are spelled.
-use Rattle.std.specs.Prelude.{ℕ, suc, ◌≤◌, Bool, true, false, cond, ◌&&◌, List, [], ◌∷◌, ◌++◌, ◌≡◌, leb, eqb}
+use Rattle.std.specs.Prelude.{ℕ, suc, ◌≤◌, Bool, true, ◌&&◌, List, [], ◌∷◌, ◌++◌, ◌≡◌, leb}
+use Rattle.std.specs.Str.{bytes_eq}
 pub use Rattle.constants.specs.Bytes.{bytes}
 
 infixl 30 ◌▹◌
@@ -71,10 +72,7 @@ pieces_of (signals ss s) = with_signal (commas with_signal head ss) s ▹ shuts
 
 -- whether two words have the same bytes
 abbrev pub same : List ℕ → List ℕ → Bool
-same [] [] = true
-same [] (b ∷ v) = false
-same (a ∷ w) [] = false
-same (a ∷ w) (b ∷ v) = cond (eqb a b) (same w v) false
+same = bytes_eq
 
 -- `a` to `z`
 abbrev pub is_small : ℕ → Bool

@@ -1,21 +1,13 @@
 -- Parts of a buffer: their lengths, and where they are empty.
 use mathlib.Core.Path.{◌≡◌, sym, ap, ◌∙◌}
-use mathlib.Core.List.{List, [], ◌∷◌}
-use Prim.Native.Nat.{ℕ, zero, suc, ◌-◌, ◌<◌, min}
+use mathlib.Core.List.{List, []}
+use Prim.Native.Nat.{ℕ, ◌-◌, ◌<◌, min}
 use native.Mathlib.Omega.{arith}
 use lib.ListN.{length, take, drop, length-take, length-drop}
-use lib.Seq.{take-nil}
 use mathlib.Core.Logic.{inl, inr}
 use Rattle.std.proofs.lemmas.Bool.{cases_lt}
+use Rattle.std.proofs.lemmas.List.{take_min}
 use Rattle.lines.specs.Spans.{part}
-
--- no more is taken of a list than it has
-clip : (n : ℕ) (l : List ℕ) → take (min n (length l)) l ≡ take n l
-clip zero l = let none : min 0 (length l) ≡ 0 = omega arith in ap (λ (k : ℕ). take k l) none
-clip (suc n) [] = take-nil (min (suc n) 0)
-clip (suc n) (x ∷ l) =
-    let more : min (suc n) (suc (length l)) ≡ suc (min n (length l)) = omega arith in
-    ap (λ (k : ℕ). take k (x ∷ l)) more ∙ ap (λ (m : List ℕ). x ∷ m) (clip n l)
 
 module _ (from to : ℕ) (l : List ℕ) where
   -- the length of a part
@@ -28,14 +20,14 @@ module _ (from to : ℕ) (l : List ℕ) where
   unfolding part
   part-clip =
       let n : min to (length l) - from ≡ min (to - from) (length (drop from l)) = omega (arith, length-drop from l) in
-      ap (λ (k : ℕ). take k (drop from l)) n ∙ clip (to - from) (drop from l)
+      ap (λ (k : ℕ). take k (drop from l)) n ∙ take_min (to - from) (drop from l)
 
   -- a part that begins past its end or the buffer's
   pub part-empty : min to (length l) < from → part from to l ≡ []
   unfolding part
   part-empty h =
       let none : min (to - from) (length (drop from l)) ≡ 0 = omega (arith, length-drop from l) in
-      sym (clip (to - from) (drop from l)) ∙ ap (λ (k : ℕ). take k (drop from l)) none
+      sym (take_min (to - from) (drop from l)) ∙ ap (λ (k : ℕ). take k (drop from l)) none
 
   -- a part between places within the buffer
   pub part-within : (s e : ℕ) → e ≡ min to (length l) → s ≡ min from e → take (e - s) (drop s l) ≡ part from to l

@@ -1,6 +1,6 @@
 -- Squeezing byte by byte, in place: what is kept stands at the front, and the bytes behind it are as they were.
 use mathlib.Core.Bool.{Bool, true, false}
-use mathlib.Core.Path.{◌≡◌, refl, sym, ap, ◌∙◌}
+use mathlib.Core.Path.{◌≡◌, sym, ap, ◌∙◌}
 use mathlib.Core.List.{List, [], ◌∷◌, ◌++◌, append-nil}
 use Prim.Native.Nat.{ℕ, suc, ◌+◌, ◌-◌, ◌≤◌, ◌<◌}
 use native.Mathlib.Numerals.{add-one}
@@ -8,7 +8,7 @@ use native.Mathlib.Omega.{arith}
 use lib.ListN.{length, get_or, drop, set, length-set, length-append, drop_of_length-le}
 use lib.Seq.{drop-cons, append_snoc, get_or-append-add, get_or-drop, set_at}
 use Rattle.lines.specs.declared.squeezing.Run.{Run}
-use Rattle.lines.specs.Squeezing.{no_run, run_after, is_redundant, squeezed_from, squeezed}
+use Rattle.lines.specs.Squeezing.{run_after, is_redundant, squeezed_from, squeezed}
 
 -- the first j bytes of d are squeezed into the first i of buf, and run says how they end
 pub record Squeezing (d : List ℕ) (run : Run) (i j : ℕ) (buf : List ℕ) : Type 0 where
@@ -19,18 +19,6 @@ pub record Squeezing (d : List ℕ) (run : Run) (i j : ℕ) (buf : List ℕ) : T
   pub long : length buf ≡ length d
   pub front : buf ≡ kept ++ drop i d
   pub left : kept ++ squeezed_from run (drop j d) ≡ squeezed d
-
-pub start : (d : List ℕ) → Squeezing d no_run 0 0 d
-start d =
-    record {
-      kept = [];
-      size = refl;
-      behind = omega arith;
-      within = omega arith;
-      long = refl;
-      front = refl;
-      left = refl;
-    }
 
 module _ (d : List ℕ) (run : Run) (i j : ℕ) (buf : List ℕ) (s : Squeezing d run i j buf) where
   -- the next byte is read where it stood at first

@@ -1,5 +1,6 @@
 -- The pulses of a phase's first k intervals, from its X's.
 use mathlib.Core.Path.{◌≡◌, refl, ap, ◌∙◌}
+use mathlib.Core.Logic.{⊎_elim}
 use Prim.Native.Nat.{ℕ, zero, suc, ◌+◌, ◌-◌, ◌*◌, ◌/◌, ◌%◌, ◌≤◌, ◌<◌}
 use native.Mathlib.Nat.{zero-mul, suc-mul, zero-div, zero-mod, mod-lt, div-add-mod', div-eq_of_lt-le}
 use native.Mathlib.Omega.{arith}
@@ -7,8 +8,8 @@ use lib.ListN.{take}
 use lib.Seq.{take_all}
 use Rattle.pulse_map.specs.Map.{Entry, X, N, map_of, bit_of, xs_in}
 use Rattle.pulse_map.specs.Pulses.{pulses_of, entry_of, pulses_in}
-use Rattle.pulse_map.proofs.Choice.{by_order, bit_le}
-use Rattle.pulse_map.proofs.Laws.{map_xs, map-length, prefix_step}
+use Rattle.std.proofs.lemmas.Bool.{cases_lt}
+use Rattle.pulse_map.proofs.Laws.{bit_le, map_xs, map-length, prefix_step}
 
 -- one interval more: the next element of the map, or the first of the map's next turn
 module _ (l k : ℕ) (pos : 0 < l) where
@@ -67,8 +68,9 @@ module _ (repx repn : ℕ) where
   turns pos zero = rw (zero-div, zero-mod, zero-mul)
   turns pos (suc k) =
       let l = repx + repn in
-      by_order (suc (suc (k % l))) l
-      (λ h. rw (same_turn l k pos h, next_element l k pos h)
-      (omega (arith, turns pos k, bit-pulses (entry_of repx repn k), prefix_step (map_of repx repn) (k % l))))
+      ⊎_elim
       (λ h. rw (next-turn l k pos (omega arith), first_element l k pos (omega arith))
       (omega (arith, turns pos k, bit-pulses (entry_of repx repn k), prefix_step (map_of repx repn) (k % l), suc-mul (k / l) repx, turn (suc (k % l)) (omega arith))))
+      (λ h. rw (same_turn l k pos h, next_element l k pos h)
+      (omega (arith, turns pos k, bit-pulses (entry_of repx repn k), prefix_step (map_of repx repn) (k % l))))
+      (cases_lt l (suc (suc (k % l))))

@@ -7,9 +7,13 @@ use native.Mathlib.Omega.{arith}
 use lib.Dec.{leb}
 use lib.ListN.{length, get_or, take, replicate, length-append, length-replicate}
 use Rattle.pulse_map.specs.Map.{Entry, X, N, x_groups, n_groups, map_of, bit_of, xs_in, ns_in}
-use Rattle.pulse_map.proofs.Choice.{cond_ind, bit_le}
+use Rattle.std.proofs.lemmas.Bool.{cond_both}
 
 -- ---- counts of a list
+
+pub bit_le : (e : Entry) → bit_of e ≤ 1
+bit_le X = omega arith
+bit_le N = omega arith
 
 pub xs_append : (a b : List Entry) → xs_in (a ++ b) ≡ xs_in a + xs_in b
 unfolding xs_in
@@ -59,9 +63,9 @@ unfolding map_of
 map_xs x zero = omega (arith, xs_replicate x X)
 map_xs zero (suc n) = omega (arith, xs_replicate (suc n) N)
 map_xs (suc x) (suc n) =
-    cond_ind (λ (l : List Entry). xs_in l ≡ suc x) (leb (suc n) (suc x))
-    (x-groups_xs _ (suc x) (suc n))
-    (n-groups_xs _ (suc x) (suc n))
+    cond_both (leb (suc n) (suc x)) _ _ (λ (l : List Entry). xs_in l ≡ suc x)
+    (λ _. x-groups_xs _ (suc x) (suc n))
+    (λ _. n-groups_xs _ (suc x) (suc n))
 
 -- its length is repx + repn
 pub map-length : (repx repn : ℕ) → length (map_of repx repn) ≡ repx + repn
@@ -69,9 +73,9 @@ unfolding map_of
 map-length x zero = omega (arith, length-replicate x X)
 map-length zero (suc n) = omega (arith, length-replicate (suc n) N)
 map-length (suc x) (suc n) =
-    cond_ind (λ (l : List Entry). length l ≡ suc x + suc n) (leb (suc n) (suc x))
-    (x-groups-length _ (suc x) (suc n))
-    (n-groups-length _ (suc x) (suc n))
+    cond_both (leb (suc n) (suc x)) _ _ (λ (l : List Entry). length l ≡ suc x + suc n)
+    (λ _. x-groups-length _ (suc x) (suc n))
+    (λ _. n-groups-length _ (suc x) (suc n))
 
 -- a map has repn N's
 pub map_ns : (repx repn : ℕ) → ns_in (map_of repx repn) ≡ repn

@@ -1,5 +1,4 @@
 -- The laws of pulse maps, and what the proofs of the functions cite.
-pub mod Choice
 pub mod Laws
 pub mod Prefix
 pub mod Words

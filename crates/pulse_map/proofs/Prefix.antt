@@ -1,6 +1,7 @@
 -- The X's among the first k elements of any map, worked out from k alone.
 use mathlib.Core.Path.{◌≡◌, refl, sym, ap, ◌∙◌}
 use mathlib.Core.List.{List, [], ◌∷◌, ◌++◌, append-nil}
+use mathlib.Core.Logic.{⊎_elim}
 use Prim.Native.Nat.{ℕ, zero, suc, ◌+◌, ◌-◌, ◌*◌, ◌/◌, min, ◌≤◌, ◌<◌}
 use native.Mathlib.Nat.{zero-mul, suc-mul, zero-min, min-zero, sub-zero, zero-sub, suc-sub-suc, suc-min-suc}
 use native.Mathlib.Nat.{div-eq_of_lt, add-div_left, div-eq-sub-div, div-le_self, mul-div-le}
@@ -10,7 +11,7 @@ use lib.Seq.{take-nil}
 use borrow.Author.Tests.{le-leb, lt-leb}
 use Rattle.fractions.specs.Rounding.{rounded_half_up}
 use Rattle.pulse_map.specs.Map.{Entry, X, N, x_groups, n_groups, map_of, bit_of, xs_in}
-use Rattle.pulse_map.proofs.Choice.{by_order}
+use Rattle.std.proofs.lemmas.Bool.{cases_lt}
 use Rattle.pulse_map.proofs.Laws.{x-groups_xs, prefix_le, prefix_le_whole}
 
 moved : (l : List Entry) {i j : ℕ} → i ≡ j → xs_in (take i l) ≡ xs_in (take j l)
@@ -50,9 +51,10 @@ module _ (g : ℕ) where
   -- k elements are more than their groups by as many as stand in one group
   groups_le : (k : ℕ) → k / (g + 1) + min g k ≤ k
   groups_le k =
-      by_order k g
-      (λ h. omega (arith, within k h))
+      ⊎_elim
       (λ h. omega (arith, beyond k h, div-le_self (k - (g + 1)) (g + 1)))
+      (λ h. omega (arith, within k h))
+      (cases_lt g k)
 
   -- ---- g X's and one N: the N's of k elements are its whole groups, as far as there are N's
   x-step : (x n k : ℕ) → xs_in (take k (x_groups g x (suc n))) ≡ min k (min g x) + xs_in (take (k - min g x - 1) (x_groups g (x - g) n))
@@ -79,15 +81,17 @@ module _ (g : ℕ) where
   unfolding x_groups
   x_prefix x zero k = omega (arith, last-run X x k)
   x_prefix x (suc n) k =
-      by_order g x
-      (λ l. by_order k g
-      (λ h. x_in x n k l h ∙ omega (arith, groups_le k))
+      ⊎_elim
+      (λ l. x-few x n k l ∙ omega (arith, groups_le k))
+      (λ l. ⊎_elim
       (λ h. let all : g + (x - g) ≡ x = omega arith in
       let whole : g + 1 + (k - (g + 1)) ≡ k = omega arith in
       x-over x n k l h
       ∙ ap (λ (xs : ℕ). g + xs) (x_prefix (x - g) n (k - (g + 1)))
-      ∙ rw (all, whole, ← beyond k h) at (after-group (x - g) (k - (g + 1)) ((k - (g + 1)) / (g + 1)) n (div-le_self (k - (g + 1)) (g + 1)))))
-      (λ l. x-few x n k l ∙ omega (arith, groups_le k))
+      ∙ rw (all, whole, ← beyond k h) at (after-group (x - g) (k - (g + 1)) ((k - (g + 1)) / (g + 1)) n (div-le_self (k - (g + 1)) (g + 1))))
+      (λ h. x_in x n k l h ∙ omega (arith, groups_le k))
+      (cases_lt g k))
+      (cases_lt x g)
 
   -- ---- one X and g N's: the X's of k elements are the groups that begin in them, as far as there are X's
   n-step : (x n k : ℕ) → g ≤ n → xs_in (take (suc k) (n_groups g (suc x) n)) ≡ 1 + xs_in (take (k - g) (n_groups g x (n - g)))
@@ -105,9 +109,10 @@ module _ (g : ℕ) where
       let step = n-step x n k (omega (arith, suc-mul x g)) in
       let rest = n_prefix x (n - g) (k - g) (omega (arith, suc-mul x g)) in
       rw (e, add-div_left k {k = g + 1} (omega arith))
-      (by_order g k
+      (⊎_elim
+      (λ l. let f : k - g + g ≡ g = omega arith in omega (arith, step, rw f at rest, within k (omega arith), within g (omega arith)))
       (λ l. let f : k - g + g ≡ k = omega arith in omega (arith, step, rw f at rest))
-      (λ l. let f : k - g + g ≡ g = omega arith in omega (arith, step, rw f at rest, within k (omega arith), within g (omega arith))))
+      (cases_lt k g))
 
 -- ---- of a map
 

@@ -1,20 +1,22 @@
 -- A list of entries as a word: what a shift, a mask and a count of ones make of it.
 use mathlib.Core.Path.{◌≡◌, refl, sym, ap, ap₂, ◌∙◌}
 use mathlib.Core.List.{List, [], ◌∷◌}
+use mathlib.Core.Logic.{⊎_elim}
 use Prim.Native.Nat.{ℕ, zero, suc, ◌+◌, ◌-◌, ◌*◌, ◌/◌, ◌%◌, ◌^◌, min, ◌≤◌, ◌<◌}
-use native.Mathlib.Nat.{zero-div, zero-mod, div-div-eq-div-mul, pow-suc, mul_comm, div-one, mod-one, one-mul, mod-eq_of_lt, lt_of_lt_of_le}
+use native.Mathlib.Nat.{zero-div, zero-mod, div-div-eq-div-mul, pow-suc, mul_comm, div-one, mod-one, mod-eq_of_lt, lt_of_lt_of_le}
 use native.Mathlib.Numerals.{add-one}
 use native.Mathlib.Omega.{arith}
-use lib.Pow.{mod-pow-add, pow_mono, pow-lt}
+use lib.Pow.{mod-pow-add, pow_mono}
 use lib.Count.{ones, ones_step}
 use lib.Bits.{bit_and, and_mask}
 use lib.ListN.{length, get_or, take, drop}
 use lib.Seq.{get_or-take, get_or-drop, take_all, take-take, take-add}
 use Rattle.std.proofs.lemmas.List.{drop_all}
+use Rattle.std.proofs.lemmas.Nat.{one_shl}
 use Rattle.pulse_map.specs.Map.{Entry, N, map_of, bit_of, xs_in}
 use Rattle.pulse_map.specs.Words.{word_of, part, hundred_word, ten_word, words_of}
-use Rattle.pulse_map.proofs.Choice.{by_order, bit_le}
-use Rattle.pulse_map.proofs.Laws.{xs_append, map-length}
+use Rattle.std.proofs.lemmas.Bool.{cases_lt}
+use Rattle.pulse_map.proofs.Laws.{bit_le, xs_append, map-length}
 
 half : (e : Entry) (w : ℕ) → (bit_of e + 2 * w) / 2 ≡ w
 half e w = omega (arith, bit_le e)
@@ -93,13 +95,14 @@ words-bit l i h = rw (word_at l (i / 64) (omega arith)) (part-bit l i)
 pub words_xs : (l : List Entry) (k : ℕ) → k ≤ 128 → ones (word_of (part 0 l) % 2 ^ min k 64) + ones (word_of (part 1 l) % 2 ^ (k - 64)) ≡ xs_in (take k l)
 unfolding xs_in
 words_xs l k h =
-    by_order k 64
+    ⊎_elim
+    (λ gt. let low : min k 64 ≡ 64 = omega arith in rw low (both_xs l k (omega arith) h))
     (λ le.
     let low : min k 64 ≡ k = omega arith in
     let rest : k - 64 ≡ 0 = omega arith in
     let none : ones (word_of (part 1 l) % 2 ^ 0) ≡ 0 = low_xs (part 1 l) 0 in
     rw (low, rest) (omega (arith, first_xs l k le, none)))
-    (λ gt. let low : min k 64 ≡ 64 = omega arith in rw low (both_xs l k (omega arith) h))
+    (cases_lt 64 k)
 
 -- the words of the two tables are those of their maps
 pub hundred-words : (x n : ℕ) → x + n ≡ 100 → hundred_word x 0 ∷ hundred_word x 1 ∷ [] ≡ words_of (map_of x n)
@@ -115,12 +118,9 @@ ten-words x n e =
 
 -- ---- masks
 
-mask : (k : ℕ) → k < 64 → 1 * 2 ^ k % 2 ^ 64 ≡ 2 ^ k
-mask k h = rw one-mul (mod-eq_of_lt (pow-lt h))
-
 -- a mask of k ones keeps the k low bits
 pub and_low : (w k : ℕ) → k < 64 → bit_and w (1 * 2 ^ k % 2 ^ 64 - 1) ≡ w % 2 ^ k
-and_low w k h = rw (mask k h) (and_mask w k)
+and_low w k h = rw (one_shl k 64 h) (and_mask w k)
 
 -- a word of 64 bits has no others
 pub above : (w k : ℕ) → w < 2 ^ 64 → 64 ≤ k → w % 2 ^ k ≡ w

@@ -1,5 +1,5 @@
 -- A number is read digit by digit: each digit takes the value on, and a value past the top never comes back.
-use Rattle.std.proofs.Common.{◌≡◌, ◌∙◌, sym, refl, ℕ, ◌+◌, ◌-◌, ◌*◌, ◌≤◌, ◌<◌, Bool, true, false, ◌&&◌, nat_le, List, [], ◌∷◌, length, get_or, drop, drop-cons, add-one, arith}
+use Rattle.std.proofs.Common.{◌≡◌, ◌∙◌, sym, refl, ℕ, ◌+◌, ◌-◌, ◌*◌, ◌≤◌, ◌<◌, true, false, ◌&&◌, nat_le, List, [], ◌∷◌, length, get_or, drop, drop-cons, add-one, arith}
 use Rattle.std.specs.Prelude.{◌==◌, if◌then◌else◌, Option, Some, None}
 use Rattle.std.proofs.lemmas.Bool.Decides.{nat_tests}
 use Rattle.script.specs.Numbers.{top, is_digit, all_digits, value_after, number_of}
@@ -16,11 +16,7 @@ grows v (b ∷ l) = let g = grows (10 * v + (b - 48)) l in omega arith
 -- a value past the top is no number, whatever follows
 past_top : (v : ℕ) (l : List ℕ) → top < v → number_after v l ≡ None
 unfolding number_after
-past_top v l h = let g = grows v l in one (all_digits l) (nat_le (value_after v l) top) (grind (arith, nat_tests))
-  where
-    one : (s t : Bool) → t ≡ false → (if s && t then Some (value_after v l) else None) ≡ None
-    one true t e = rw e
-    one false t e = refl
+past_top v l h = let g = grows v l in grind (arith, nat_tests)
 
 -- no more digits: the value is the number
 pub no_more : (v : ℕ) → v ≤ top → number_after v [] ≡ Some v

@@ -1,5 +1,5 @@
 -- A number that is printed reads back as itself.
-use Rattle.std.proofs.Common.{◌≡◌, refl, sym, ◌∙◌, ℕ, ◌+◌, ◌-◌, ◌*◌, ◌/◌, ◌%◌, ◌≤◌, ◌<◌, Bool, true, false, ◌&&◌, nat_le, List, [], ◌∷◌, ◌++◌, length, length-append, arith}
+use Rattle.std.proofs.Common.{◌≡◌, refl, sym, ◌∙◌, ℕ, ◌+◌, ◌-◌, ◌*◌, ◌/◌, ◌%◌, ◌≤◌, ◌<◌, true, false, nat_le, List, [], ◌∷◌, ◌++◌, length, length-append, arith}
 use Rattle.std.specs.Prelude.{◌==◌, Some}
 use Rattle.std.proofs.lemmas.Bool.Decides.{nat_tests}
 use Rattle.std.proofs.lemmas.Fmt.{decimal_by_steps}
@@ -20,11 +20,7 @@ digit-is d h = grind (arith, nat_tests)
 -- one more digit leaves digits
 digits_snoc : (l : List ℕ) (d : ℕ) → d < 10 → all_digits l ≡ true → all_digits (l ++ ((48 + d) ∷ [])) ≡ true
 digits_snoc [] d h e = rw (digit-is d h)
-digits_snoc (a ∷ l) d h e = both (is_digit a) (all_digits l) e (digits_snoc l d h)
-  where
-    both : (s t : Bool) {u : Bool} → (s && t) ≡ true → (t ≡ true → u ≡ true) → (s && u) ≡ true
-    both true t q f = f q
-    both false t q f = q
+digits_snoc (a ∷ l) d h e = grind (arith, digits_snoc l d h)
 
 -- a text of digits with the value n
 record Reads (n : ℕ) (l : List ℕ) : Type 0 where

@@ -1,17 +1,19 @@
 -- The code of a name tells it from any other, and a number of ten digits has its decimal value.
-use Prim.Native.Nat.{ℕ, zero, suc, ◌+◌, ◌*◌, ◌-◌, ◌%◌, ◌≤◌, ◌<◌, min}
+use Prim.Native.Nat.{ℕ, ◌+◌, ◌*◌, ◌-◌, ◌%◌, ◌^◌, ◌≤◌, ◌<◌, min}
+use native.Mathlib.Nat.{pow-succ', pow-le-pow_right}
 use native.Mathlib.Omega.{arith}
 use mathlib.Core.Bool.{Bool, true, false, cond, ◌&&◌, true≢false as no}
 use mathlib.Core.List.{List, [], ◌∷◌, ◌++◌, append-nil, append_assoc}
-use mathlib.Core.Path.{◌≡◌, refl, sym, ap, subst, ◌∙◌}
-use borrow.Author.Tests.{leb-true, ltb-true, eq-eqb, ne_eqb}
-use lib.Dec.{leb, ltb, eqb}
-use Rattle.tariff.proofs.Both.{both_left, both_right}
-use Rattle.grammar.specs.Grammar.{bytes, same, is_small, Small, Digit, Name, letter, letters, Digits, digit, digits}
+use mathlib.Core.Path.{◌≡◌, refl, sym, ap, ◌∙◌}
+use borrow.Author.Tests.{ltb-true, eqb-true, eq-eqb}
+use lib.Dec.{ltb, eqb}
+use Rattle.std.proofs.lemmas.Bool.{and_parts}
+use Rattle.std.proofs.lemmas.Bool.Decides.{same_from_decides}
+use Rattle.std.proofs.lemmas.Slice.Eq.{bytes_eq-Decides}
+use Rattle.grammar.specs.Grammar.{bytes, same, is_small, Small, Name, letter, letters, Digits, digit, digits}
 use Rattle.grammar.specs.Meaning.{Known, ◌↣◌, slot_in as named_slot, known_signals, em_items, mpb_items, phsm_items, items_of, decimal_after, decimal_of, signal_slot as signal_named, item_slot as item_named}
 use Rattle.scanner.specs.Codes.{code_after, code_of, number_after, number_of, next_letter, next_digit}
 use Rattle.notes.specs.Noting.{slot_in, signal_slot, item_slot}
-use Rattle.grammar.proofs.Sound.{same_word}
 
 plain_after : ℕ → List ℕ → ℕ
 plain_after c [] = c
@@ -42,65 +44,44 @@ code-plain (letter {b} h) = capped 0 0 b (omega arith)
 code-plain (letters {w} {b} k h) =
     code-more 0 w b ∙ capped (code_of w) (plain w) b (code-plain k) ∙ ap (λ (p : ℕ). min p 1_099_511_627_776) (sym (plain_more 0 w b))
 
-record Within (b : ℕ) : Type 0 where
-  low : 97 ≤ b
-  high : b ≤ 122
-
-within : {b : ℕ} → Small b → Within b
-within {b} h =
-    record {
-      low = leb-true 97 b (both_left (leb 97 b) (leb b 122) h.test);
-      high = leb-true b 122 (both_right (leb 97 b) (leb b 122) h.test);
-    }
-
 plain-some : {w : List ℕ} → Name w → 0 < plain w
 unfolding plain plain_after
-plain-some (letter {b} h) = let i = within h in omega arith
-plain-some (letters {w} {b} k h) = let i = within h in rw (plain_more 0 w b) (omega arith)
+plain-some (letter {b} h) = grind (arith, h.test)
+plain-some (letters {w} {b} k h) = rw (plain_more 0 w b) (grind (arith, h.test))
 
 plain-tells : {w v : List ℕ} → Name w → Name v → plain w ≡ plain v → w ≡ v
 unfolding plain plain_after
 plain-tells (letter {b} h) (letter {b = c} k) e =
-    let i = within h in
-    let j = within k in
-    let q : b ≡ c = omega arith in
+    let q : b ≡ c = grind (arith, h.test, k.test) in
     ap (λ (x : ℕ). x ∷ []) q
 plain-tells (letter {b} h) (letters {w = v} {b = c} l k) e =
-    let i = within h in
     let s = plain-some l in
     let f : 32 * 0 + b % 32 ≡ 32 * plain v + c % 32 = e ∙ plain_more 0 v c in
-    absurd (omega arith)
+    absurd (grind (arith, h.test))
 plain-tells (letters {w} {b} l h) (letter {b = c} k) e =
-    let i = within k in
     let s = plain-some l in
     let f : 32 * plain w + b % 32 ≡ 32 * 0 + c % 32 = sym (plain_more 0 w b) ∙ e in
-    absurd (omega arith)
+    absurd (grind (arith, k.test))
 plain-tells (letters {w} {b} l h) (letters {w = v} {b = c} m k) e =
-    let i = within h in
-    let j = within k in
     let f : 32 * plain w + b % 32 ≡ 32 * plain v + c % 32 = sym (plain_more 0 w b) ∙ e ∙ plain_more 0 v c in
     let g : plain w ≡ plain v = omega arith in
-    let q : b ≡ c = omega arith in
+    let q : b ≡ c = grind (arith, h.test, k.test) in
     let r = plain-tells l m g in
     cc
 
-same_refl : (w : List ℕ) → same w w ≡ true
-same_refl [] = refl
-same_refl (b ∷ w) = rw (eq-eqb b b refl) (same_refl w)
-
 -- the codes of two names are equal just where the names are
 pub code_same : {w v : List ℕ} → Name w → Name v → code_of v < 1_099_511_627_776 → eqb (code_of w) (code_of v) ≡ same w v
-code_same {w} {v} h k short = at (same w v) refl
+code_same {w} {v} h k short = same_from_decides (eqb (code_of w) (code_of v)) (same w v) (tells, equal) (bytes_eq-Decides w v)
   where
-    at : (t : Bool) → same w v ≡ t → eqb (code_of w) (code_of v) ≡ t
-    at true e = eq-eqb (code_of w) (code_of v) (ap code_of (same_word w v e))
-    at false e =
-        ne_eqb (code_of w) (code_of v) (λ q.
+    tells : eqb (code_of w) (code_of v) ≡ true → w ≡ v
+    tells e =
+        let q = eqb-true (code_of w) (code_of v) e in
         let x = code-plain h in
         let y = code-plain k in
-        let f : plain w ≡ plain v = omega arith in
-        let g = plain-tells h k f in
-        no (sym (same_refl v) ∙ ap (λ (u : List ℕ). same u v) (sym g) ∙ e))
+        plain-tells h k (omega arith)
+
+    equal : w ≡ v → eqb (code_of w) (code_of v) ≡ true
+    equal e = eq-eqb (code_of w) (code_of v) (ap code_of e)
 
 abbrev all_small : List ℕ → Bool
 all_small [] = true
@@ -113,11 +94,11 @@ a_small b e = record { test = e }
 small_word : (w : List ℕ) {v : List ℕ} → Name v → all_small w ≡ true → Name (v ++ w)
 small_word [] h e = rw append-nil h
 small_word (b ∷ w) {v} h e =
-    rw (← append_assoc v (b ∷ []) w)
-    (small_word w (letters h (a_small b (both_left (is_small b) (all_small w) e))) (both_right (is_small b) (all_small w) e))
+    let both = and_parts (is_small b) (all_small w) e in
+    rw (← append_assoc v (b ∷ []) w) (small_word w (letters h (a_small b both.0)) both.1)
 
 pub word : (b : ℕ) (w : List ℕ) → all_small (b ∷ w) ≡ true → Name (b ∷ w)
-word b w e = small_word w (letter (a_small b (both_left (is_small b) (all_small w) e))) (both_right (is_small b) (all_small w) e)
+word b w e = let both = and_parts (is_small b) (all_small w) e in small_word w (letter (a_small b both.0)) both.1
 
 pub amet : Name (bytes "amet")
 amet = word 97 (bytes "met") refl
@@ -134,14 +115,15 @@ all_words ((s ↣ k) ∷ ks) = is_word (bytes s) && all_words ks
 word_same : {w : List ℕ} (v : List ℕ) → Name w → is_word v ≡ true → eqb (code_of w) (code_of v) ≡ same w v
 word_same [] h e = absurd (no (sym e))
 word_same (b ∷ v) h e =
-    code_same h (word b v (both_left (all_small (b ∷ v)) (ltb (code_of (b ∷ v)) 1_099_511_627_776) e))
-    (ltb-true (code_of (b ∷ v)) 1_099_511_627_776 (both_right (all_small (b ∷ v)) (ltb (code_of (b ∷ v)) 1_099_511_627_776) e))
+    let both = and_parts (all_small (b ∷ v)) (ltb (code_of (b ∷ v)) 1_099_511_627_776) e in
+    code_same h (word b v both.0) (ltb-true (code_of (b ∷ v)) 1_099_511_627_776 both.1)
 
 -- a slot goes by the name
 slot-named : (ks : List Known) {w : List ℕ} → Name w → all_words ks ≡ true → slot_in ks (code_of w) ≡ named_slot ks w
 slot-named [] h e = refl
 slot-named ((s ↣ k) ∷ ks) {w} h e =
-    rw (word_same (bytes s) h (both_left (is_word (bytes s)) (all_words ks) e), slot-named ks h (both_right (is_word (bytes s)) (all_words ks) e))
+    let both = and_parts (is_word (bytes s)) (all_words ks) e in
+    rw (word_same (bytes s) h both.0, slot-named ks h both.1)
 
 -- what holds of each list of items holds of those of any signal
 pub items_all : (test : List Known → Bool) → test em_items ≡ true → test mpb_items ≡ true → test phsm_items ≡ true → test [] ≡ true
@@ -162,50 +144,21 @@ item_named_lem s h = slot-named (items_of s) h (items_all all_words refl refl re
 
 -- NUMBERS
 
--- 10 ^ n
-abbrev ten : ℕ → ℕ
-ten zero = 1
-ten (suc n) = 10 * ten n
-
 decimal-more : (c : ℕ) (w : List ℕ) (b : ℕ) → decimal_after c (w ++ (b ∷ [])) ≡ 10 * decimal_after c w + (b - 48)
 decimal-more c [] b = refl
 decimal-more c (a ∷ w) b = decimal-more (10 * c + (a - 48)) w b
 
-module _ {b : ℕ} (h : Digit b) where
-  digit-least : 48 ≤ b
-  digit-least = leb-true 48 b (both_left (leb 48 b) (leb b 57) h.test)
-
-  digit-most : b ≤ 57
-  digit-most = leb-true b 57 (both_right (leb 48 b) (leb b 57) h.test)
-
-decimal-below : {n : ℕ} {w : List ℕ} → Digits n w → decimal_of w < ten n
-decimal-below (digit {b} h) = let i = digit-least h in let j = digit-most h in omega arith
+decimal-below : {n : ℕ} {w : List ℕ} → Digits n w → decimal_of w < 10 ^ n
+decimal-below (digit {b} h) = grind (arith, h.test)
 decimal-below (digits {n} {w} {b} k h) =
-    let i = digit-least h in
-    let j = digit-most h in
     let l = decimal-below k in
-    rw (decimal-more 0 w b) (omega arith)
+    rw (decimal-more 0 w b, pow-succ' 10 n) (grind (arith, h.test))
 
 -- fewer than ten digits leave room for one more
-ten-grows : (n d : ℕ) → ten n ≤ ten (d + n)
-ten-grows n zero = let e : 0 + n ≡ n = omega arith in rw e (omega arith)
-ten-grows n (suc d) =
-    let h = ten-grows n d in
-    let e : suc d + n ≡ suc (d + n) = omega arith in
-    rw e (omega arith)
-
-ten-low : (n : ℕ) → n < 10 → ten n < 1_099_511_627_776
-ten-low n h =
-    let e : (9 - n) + n ≡ 9 = omega arith in
-    let g : ten n ≤ ten 9 = subst (λ (k : ℕ). ten n ≤ ten k) e (ten-grows n (9 - n)) in
-    omega arith
-
 pub number-value : {n : ℕ} {w : List ℕ} → Digits n w → n ≤ 10 → number_of w ≡ decimal_of w
-number-value (digit {b} h) few = let i = digit-least h in let j = digit-most h in omega arith
+number-value (digit {b} h) few = grind (arith, h.test)
 number-value (digits {n} {w} {b} k h) few =
-    let i = digit-least h in
-    let j = digit-most h in
     let l = decimal-below k in
-    let m = ten-low n (omega arith) in
+    let m : 10 ^ n ≤ 10 ^ 9 = pow-le-pow_right {n = 10} (omega arith) {i = n} {j = 9} (omega arith) in
     let e = number-value k (omega arith) in
-    rw (number_more 0 w b, decimal-more 0 w b, e) (omega arith)
+    rw (number_more 0 w b, decimal-more 0 w b, e) (grind (arith, h.test))

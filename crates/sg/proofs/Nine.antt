@@ -1,14 +1,13 @@
 -- Nine values of each phase list are enough: they are sound exactly where the lists are, and then they are the lists.
 use Prim.Native.Nat.{ℕ, ◌≤◌, min}
 use native.Mathlib.Omega.{arith}
-use mathlib.Core.Bool.{Bool, true, false, true≢false as no}
+use mathlib.Core.Bool.{Bool, true, false}
 use mathlib.Core.List.{List}
-use mathlib.Core.Path.{◌≡◌, refl, sym, ◌∙◌}
-use borrow.Author.Tests.{leb-true, eq-eqb, ne_eqb, eqb-true}
-use lib.Dec.{leb, eqb}
+use mathlib.Core.Path.{◌≡◌, refl}
+use lib.Dec.{eqb}
 use lib.ListN.{length, take, length-take}
 use lib.Seq.{take_all}
-use Rattle.tariff.proofs.Both.{both_left, both_right}
+use Rattle.std.proofs.lemmas.Bool.{and_parts}
 use Rattle.tariff.specs.Ranges.{within}
 use Rattle.rules.proofs.OnePass.{held-within}
 use Rattle.phase_lists.specs.Lists.{Lists, sound_lists, first_places}
@@ -16,14 +15,7 @@ use Rattle.phase_lists.proofs.FirstPlaces.{first-all}
 
 -- a length up to 8 is told from any other
 same_length : (l : List ℕ) (a : ℕ) → a ≤ 8 → eqb (length (take 9 l)) a ≡ eqb (length l) a
-same_length l a few = rw (length-take 9 l) (at (eqb (length l) a) refl)
-  where
-    at : (t : Bool) → eqb (length l) a ≡ t → eqb (min 9 (length l)) a ≡ t
-    at true e = let q = eqb-true (length l) a e in eq-eqb (min 9 (length l)) a (omega arith)
-    at false e =
-        ne_eqb (min 9 (length l)) a (λ q.
-        let z : length l ≡ a = omega arith in
-        no (sym (eq-eqb (length l) a z) ∙ e))
+same_length l a few = rw (length-take 9 l) (grind arith)
 
 within_nine : (l : List ℕ) → within 1 8 (length (take 9 l)) ≡ within 1 8 (length l)
 within_nine l =
@@ -32,7 +24,7 @@ within_nine l =
 
 module _ (ls : Lists) where
   few : within 1 8 (length ls.pri) ≡ true → length ls.pri ≤ 8
-  few e = leb-true (length ls.pri) 8 (both_right (leb 1 (length ls.pri)) (leb (length ls.pri) 8) e)
+  few e = grind arith
 
   pub sound_nine : sound_lists (first_places ls 9) ≡ sound_lists ls
   unfolding sound_lists
@@ -47,5 +39,5 @@ module _ (ls : Lists) where
   pub nine_whole : sound_lists ls ≡ true → first_places ls 9 ≡ ls
   unfolding sound_lists
   nine_whole e =
-      let w = within 1 8 (length ls.pri) in
-      let n = few (both_left w _ e) in first-all ls 9 (both_right w _ e) (omega arith)
+      let both = and_parts (within 1 8 (length ls.pri)) _ e in
+      let n = few both.0 in first-all ls 9 both.1 (omega arith)

@@ -5,6 +5,7 @@ use mathlib.Core.Bool.{Bool, true, false, cond, ◌||◌, true≢false as no, or
 use mathlib.Core.List.{List, [], ◌∷◌, ◌++◌, append-nil, append_assoc}
 use mathlib.Core.Path.{◌≡◌, refl, sym, ap, subst, ◌∙◌}
 use borrow.Author.Tests.{lt-ltb, ltb-true, ltb-false}
+use Rattle.std.proofs.lemmas.Bool.{or_parts}
 use lib.Dec.{ltb}
 use lib.ListN.{length, set, take, length-set, length-append, length-take}
 use lib.Seq.{get_or-set_same, get_or-set_other, take_all, take-append-le}
@@ -89,10 +90,6 @@ module _ (n : Notes) (v : ℕ) (sized : length n.values ≡ 18) (low : n.slot < 
       at true = wrong-noted
       at false = stored-noted
 
-pub or_right : (a b : Bool) → a || b ≡ false → b ≡ false
-or_right true b e = absurd (no e)
-or_right false b e = e
-
 -- more values
 noted_more : {n m k : Notes} {w u : Bool} → Noted n m w → Noted m k u → Noted n k (w || u)
 noted_more {n} {m} {k} {w} {u} a b =
@@ -101,7 +98,7 @@ noted_more {n} {m} {k} {w} {u} a b =
       signal-is = b.signal-is ∙ a.signal-is;
       slot_is = b.slot_is ∙ a.slot_is;
       size = b.size;
-      here = λ e. rw (← a.slot_is) (b.here (or_right w u e));
+      here = λ e. rw (← a.slot_is) (b.here (or_parts w u e).1);
       others = λ s ne. b.others s (λ q. ne (q ∙ a.slot_is)) ∙ a.others s ne;
     }
 
@@ -113,10 +110,6 @@ values-noted n (vs ▹ u) v sized low =
     let m = value_of (values_notes n vs) u in
     let e = a.slot_is in
     noted_more a (value-noted m v a.size (rw e low))
-
-pub or_left : (a b : Bool) → a || b ≡ false → a ≡ false
-or_left true b e = absurd (no e)
-or_left false b e = refl
 
 -- THE VALUES: each slot holds the first nine values of its name
 
@@ -202,6 +195,6 @@ pub values-own : (n : Notes) (vs : Row ℕ) (s : ℕ) (l : List ℕ) → n.slot 
     → Holds (values_notes n vs) s (l ++ listed vs)
 values-own n none s l e low fit h = rw append-nil h
 values-own n (vs ▹ v) s l e low fit h =
-    let a = values-own n vs s l e low (or_left (any_too_large vs) (ltb 4_294_967_295 v) fit) h in
-    let b = or_right (any_too_large vs) (ltb 4_294_967_295 v) fit in
-    rw (← append_assoc l (listed vs) (v ∷ [])) (value-own (values_notes n vs) s (l ++ listed vs) v (values-slot n vs ∙ e) low b a)
+    let fits = or_parts (any_too_large vs) (ltb 4_294_967_295 v) fit in
+    let a = values-own n vs s l e low fits.0 h in
+    rw (← append_assoc l (listed vs) (v ∷ [])) (value-own (values_notes n vs) s (l ++ listed vs) v (values-slot n vs ∙ e) low fits.1 a)

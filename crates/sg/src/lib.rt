@@ -10,6 +10,7 @@ use outcomes::Reading;
 use scanner::{Place, Scanner};
 
 // What a text reads as. It is refused where the grammar does not have it, and then where its names or values are wrong.
+#[tactic(auto, using(crate::proofs::Loop::answers))]
 pub fn read(text: &[u8]) -> Result<Reading, Refusal>
     ensures { result ≡ read_of text.now }
 {

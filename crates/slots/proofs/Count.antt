@@ -42,16 +42,11 @@ count-one (suc n) c h =
     (λ t. let last = eqb-true c n t in rw (t, count_none n (λ k. eqb c k) (λ k less. ne_eqb c k (λ same. absurd (omega arith)))))
     (λ t. let before = eqb-false c n t in rw t (omega (arith, count-one n c (omega arith))))
 
-either : (b c : Bool) → (b ≡ true → c ≡ false) → bit (b || c) ≡ bit b + bit c
-either true c apart = rw (apart refl)
-either false true apart = refl
-either false false apart = refl
-
 count-either : (n : ℕ) (f g : ℕ → Bool) → ((k : ℕ) → f k ≡ true → g k ≡ false)
     → count_below n (λ k. f k || g k) ≡ count_below n f + count_below n g
 unfolding count_below
 count-either zero f g apart = refl
-count-either (suc n) f g apart = omega (arith, count-either n f g apart, either (f n) (g n) (apart n))
+count-either (suc n) f g apart = grind (arith, count-either n f g apart, apart n)
 
 -- the first m multiples of q are m numbers
 pub count_multiples : (m q n : ℕ) → 1 ≤ q → m * q ≤ n → count_below n (λ k. any_below m (λ j. eqb (j * q) k)) ≡ m

@@ -3,9 +3,9 @@ use Rattle.std.specs.Prelude.{None, Some}
 use mathlib.Core.Path.{◌≡◌, refl, sym, ◌∙◌, ap}
 use mathlib.Core.Bool.{false}
 use mathlib.Core.List.{List}
-use mathlib.Core.Logic.{◌≢◌}
+use mathlib.Core.Logic.{◌≢◌, ⊎_elim}
 use Prim.Native.Nat.{ℕ, suc, ◌+◌, ◌-◌, ◌*◌, ◌/◌, ◌≤◌, ◌<◌}
-use native.Mathlib.Nat.{zero-mul, zero-div, mul-le-mul_right, le-mul_of_pos_right}
+use native.Mathlib.Nat.{mul-le-mul_right, le-mul_of_pos_right}
 use native.Mathlib.Nat.{le-div_iff_mul-le, div-lt_iff_lt-mul, div-mul-le_self, lt-div-mul-add}
 use native.Mathlib.Omega.{arith}
 use borrow.Table.Steps.{cases}
@@ -18,18 +18,15 @@ use Rattle.tariff.specs.declared.Tariff.TheVariants.{Counted}
 use Rattle.steps.specs.declared.Waiting.{Waiting}
 use Rattle.slots.specs.Slots.{counted_slot}
 use Rattle.slots.specs.Slots.{from}
-use Rattle.slots.proofs.Order.{by_order, eqb_same}
+use Rattle.std.proofs.lemmas.Bool.{cases_lt}
 use Rattle.slots.proofs.Any.{any_some, any_none}
 use Rattle.slots.proofs.From.{from_is, from-none}
 use Rattle.slots.proofs.Ahead.{Good, Waits, next_of, slots_of, ahead, completes_in}
 
 -- slot 0 is at the origin
-pub slot-zero : (C P : ℕ) → 0 * P / C ≡ 0
-slot-zero C P = rw (zero-mul P) (zero-div C)
-
 pub counted_start : (a : List Phase) (n C P x : ℕ) → slots_of a n (Counted C P 0) x ≡ counted_slot C P x
 unfolding slots_of
-counted_start a n C P x = ap (counted_slot C P) (omega (arith, slot-zero C P))
+counted_start a n C P x = ap (counted_slot C P) (omega arith)
 
 -- a later slot is no earlier
 slot_mono : (C P k m : ℕ) → 1 ≤ C → k ≤ m → k * P / C ≤ m * P / C
@@ -53,9 +50,10 @@ counted_none C P k x few low high =
   where
     other : (m : ℕ) → m < C → m * P / C ≢ x
     other m l e =
-        by_order m k
-        (λ before. omega (arith, slot_mono C P m k (omega arith) before))
+        ⊎_elim
         (λ past. omega (arith, high (omega arith), slot_mono C P (k + 1) m (omega arith) (omega arith)))
+        (λ before. omega (arith, slot_mono C P m k (omega arith) before))
+        (cases_lt k m)
 
 -- slot k is a pulse
 pub counted-pulse : (C P k : ℕ) → k < C → counted_slot C P (k * P / C) ≡ (Some Pulse)
@@ -100,12 +98,12 @@ module _ (D : ℕ) (a : List Phase) (n C P k : ℕ) (few : k < C) where
       more further =
           let here = slot_mono C P k (k + 1) (omega arith) (omega arith) in
           let there = slot_mono C P (k + 1) (C - 1) (omega arith) (omega arith) in
-          eqb_same y _ (suc y) _ (omega arith)
+          grind arith
 
       last : C ≤ k + 1 → eqb y D ≡ completes_in a n D (Counted C P k) 1 (suc y)
       last end =
           let e : C - 1 ≡ k = omega arith in
-          rw e (eqb_same y D (suc y) _ (omega arith))
+          rw e (grind arith)
 
   module _ (S : ℕ) (spaced : 1 ≤ S) (far : 2 * S ≤ P / C) where
     pub counted-good : Waits D → C ≤ 65535 → P ≤ 86400000 → Good S a n later.tariff later.wait

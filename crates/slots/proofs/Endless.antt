@@ -1,6 +1,7 @@
 -- An em with C = 0: its slots are P apart, and the first slot past a tick moves with the tick.
 use Rattle.std.specs.Prelude.{Some}
 use mathlib.Core.Path.{◌≡◌, sym, ◌∙◌}
+use mathlib.Core.Logic.{⊎_elim}
 use Prim.Native.Nat.{ℕ, suc, ◌+◌, ◌-◌, ◌*◌, ◌/◌, ◌≤◌, ◌<◌}
 use native.Mathlib.Nat.{zero-mod, mod-eq_of_lt, mod-eq-sub-mod, div-eq_of_lt-le, div-mul-le_self}
 use native.Mathlib.Omega.{arith}
@@ -8,7 +9,7 @@ use borrow.Author.Tests.{lt-ltb, le-ltb, ne_eqb}
 use Rattle.tariff.specs.declared.Slot.TheVariants.{Pulse}
 use Rattle.slots.specs.Slots.{endless_slot}
 use Rattle.slots.specs.Slots.{from, first_past}
-use Rattle.slots.proofs.Order.{by_order}
+use Rattle.std.proofs.lemmas.Bool.{cases_lt}
 use Rattle.slots.proofs.From.{from_is}
 
 -- slot 0 is at the origin
@@ -43,7 +44,7 @@ first-late f P i u l e =
 
 -- a tick on, the first slot past it is the same
 pub first-waits : (f P i w : ℕ) → 1 < w → first_past f P i ≡ i + w → first_past f P (i + 1) ≡ i + w
-first-waits f P i w more e = by_order f i past ahead
+first-waits f P i w more e = ⊎_elim ahead past (cases_lt i f)
   where
     ahead : i < f → first_past f P (i + 1) ≡ i + w
     ahead l =
@@ -57,7 +58,7 @@ first-waits f P i w more e = by_order f i past ahead
 
 -- unless that tick has it: then the first is P ticks on
 pub first-due : (f P i : ℕ) → 1 ≤ P → first_past f P i ≡ i + 1 → first_past f P (i + 1) ≡ i + 1 + P
-first-due f P i some e = by_order f i past ahead
+first-due f P i some e = ⊎_elim ahead past (cases_lt i f)
   where
     ahead : i < f → first_past f P (i + 1) ≡ i + 1 + P
     ahead l =

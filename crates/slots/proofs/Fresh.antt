@@ -10,12 +10,11 @@ use Rattle.tariff.specs.declared.Phase.{Phase}
 use Rattle.tariff.specs.declared.Tariff.TheVariants.{Idle, Counted}
 use Rattle.slots.specs.Slots.{endless_slot, counted_slot, phased_slot, never_end}
 use Rattle.slots.specs.Slots.{nothing, phased, em_at, slot_at, completes_at}
-use Rattle.slots.proofs.Order.{eqb_same}
 use Rattle.slots.proofs.From.{from-same}
 use Rattle.slots.proofs.Ahead.{slots_of, completes_in}
 use Rattle.slots.proofs.Agree.{Agree, steady, other}
 use Rattle.slots.proofs.Endless.{first-ahead}
-use Rattle.slots.proofs.Counted.{slot-zero, counted_start}
+use Rattle.slots.proofs.Counted.{counted_start}
 use Rattle.slots.proofs.Phased.{phased-start, phased-start-ends}
 use Rattle.slots.proofs.Step.{none_left}
 
@@ -39,7 +38,7 @@ module _ (D : ℕ) (a : List Phase) (n : ℕ) where
       let same = counted_start a n C P in
       record {
         slots = λ y _. from-same (counted_slot C P) (slots_of a n (Counted C P 0)) (i + w) (i + y) w y same (omega arith);
-        ends = λ y _. eqb_same (i + y) _ y _ (omega (arith, slot-zero C P));
+        ends = λ y _. grind arith;
         rate = other refl refl;
       }
 
@@ -52,7 +51,7 @@ module _ (D : ℕ) (a : List Phase) (n : ℕ) where
       record {
         slots = λ y _. from-same (phased_slot ps) (slots_of a n (phased_of a)) (i + w) (i + y) w y same (omega arith);
         ends =
-            λ y _. ap (λ (b : Bool). not (never_end ps) && b) (eqb_same (i + y) _ y _ (omega arith))
+            λ y _. ap (λ (b : Bool). not (never_end ps) && b) (grind arith)
             ∙ sym (phased-start-ends a n w D some eight whole y);
         rate = other refl refl;
       }

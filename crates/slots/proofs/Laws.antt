@@ -3,7 +3,7 @@ use Rattle.std.specs.Prelude.{None, Option, Some}
 use mathlib.Core.Path.{◌≡◌, refl, sym, ◌∙◌}
 use mathlib.Core.Bool.{true, false, and-eq-true_iff, false≢true}
 use mathlib.Core.List.{List, []}
-use mathlib.Core.Logic.{◌≢◌, ◌↔◌}
+use mathlib.Core.Logic.{◌≢◌, ◌↔◌, ⊎_elim}
 use Prim.Native.Nat.{ℕ, zero, suc, ◌+◌, ◌-◌, ◌*◌, ◌≤◌, ◌<◌}
 use native.Mathlib.Nat.{le_refl}
 use native.Mathlib.Omega.{arith}
@@ -18,7 +18,7 @@ use Rattle.tariff.specs.declared.Slot.TheVariants.{Empty, Pulse}
 use Rattle.tariff.specs.declared.Tariff.TheVariants.{Endless, Counted}
 use Rattle.slots.specs.Slots.{endless_slot, counted_slot, phased_slot}
 use Rattle.slots.specs.Slots.{Running, nothing, endless, counted, phased, slot_at, no_slot, quiet_for}
-use Rattle.slots.proofs.Order.{by_order, by_equal}
+use Rattle.std.proofs.lemmas.Bool.{cases_lt, cases_eq}
 use Rattle.slots.proofs.Ahead.{slots_of}
 use Rattle.slots.proofs.Counted.{counted_start}
 use Rattle.slots.proofs.Phased.{phased-start, phased-start-good}
@@ -68,7 +68,7 @@ some_of s e n = false≢true (sym e ∙ rw n)
 
 -- there is at most one next slot
 next-first : (r : Running) (t u v : ℕ) → NextSlot r t u → NextSlot r t v → u ≤ v
-next-first r t u v next other = by_order u v (λ l. l) (λ l. absurd (other.slot (next.least v other.later l)))
+next-first r t u v next other = ⊎_elim (λ l. absurd (other.slot (next.least v other.later l))) (λ l. l) (cases_lt v u)
 
 pub next-unique : (r : Running) (t u v : ℕ) → NextSlot r t u → NextSlot r t v → u ≡ v
 next-unique r t u v next other = omega (arith, next-first r t u v next other, next-first r t v u other next)
@@ -78,7 +78,7 @@ next-before : (r : Running) (t u : ℕ) → no_slot (slot_at r (t + 1)) ≡ true
 next-before r t u none next = record { later = omega (arith, next.later); slot = next.slot; least = least }
   where
     least : (v : ℕ) → t < v → v < u → slot_at r v ≡ None
-    least v l m = by_equal v (t + 1) (λ e. rw e (none_of (slot_at r (t + 1)) none)) (λ e. next.least v (omega arith) m)
+    least v l m = ⊎_elim (λ e. rw e (none_of (slot_at r (t + 1)) none)) (λ e. next.least v (omega arith) m) (cases_eq v (t + 1))
 
 next-now : (r : Running) (t : ℕ) → no_slot (slot_at r (t + 1)) ≡ false → NextSlot r t (t + 1)
 next-now r t some = record { later = omega arith; slot = some_of (slot_at r (t + 1)) some; least = λ v l m. absurd (omega arith) }
@@ -89,13 +89,14 @@ unfolding quiet_for
 quiet_each r zero t u q l m = absurd (omega arith)
 quiet_each r (suc n) t u q l m =
     let both = (and-eq-true_iff (no_slot (slot_at r (t + 1))) (quiet_for r (t + 1) n)).0 q in
-    by_equal u (t + 1)
+    ⊎_elim
     (λ e. rw e (none_of (slot_at r (t + 1)) both.0))
     (λ e. quiet_each r n (t + 1) u both.1 (omega arith) (omega arith))
+    (cases_eq u (t + 1))
 
 quiet-past : (r : Running) (n t : ℕ) → quiet_for r t n ≡ true → (u : ℕ) → NextSlot r t u → t + n < u
 quiet-past r n t q u next =
-    by_order u (t + n) (λ l. absurd (next.slot (quiet_each r n t u q next.later l))) (λ l. l)
+    ⊎_elim (λ l. l) (λ l. absurd (next.slot (quiet_each r n t u q next.later l))) (cases_lt (t + n) u)
 
 quiet-before : (r : Running) (n t : ℕ) → ((u : ℕ) → NextSlot r t u → t + n < u) → quiet_for r t n ≡ true
 unfolding quiet_for

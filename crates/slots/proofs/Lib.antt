@@ -1,6 +1,5 @@
 -- The files of this folder, lowest first.
 pub mod Any
-pub mod Order
 pub mod From
 pub mod Ahead
 pub mod Agree

@@ -1,12 +1,11 @@
 -- The ways in which a phased tariff goes on after a slot.
-use mathlib.Core.Path.{◌≡◌}
-use mathlib.Core.Bool.{true, false, ◌||◌, true≢false}
+use mathlib.Core.Bool.{◌||◌}
 use mathlib.Core.List.{List}
-use Prim.Native.Nat.{ℕ, zero, suc, ◌+◌, ◌-◌, ◌*◌, ◌≤◌, ◌<◌}
+use Prim.Native.Nat.{ℕ, suc, ◌+◌, ◌-◌, ◌*◌, ◌≤◌, ◌<◌}
 use native.Mathlib.Omega.{arith}
 use borrow.Author.Tests.{ltb-true, ltb-false}
 use borrow.Table.Steps.{cases}
-use lib.Dec.{eqb, ltb, eqb-suc-zero}
+use lib.Dec.{eqb, ltb}
 use Rattle.tariff.specs.Tariffs.{phase_at, schedule_of}
 use Rattle.steps.specs.Steps.{next_entry, waiting, after_phase, after_interval, after_phased}
 use Rattle.tariff.specs.declared.Phase.{Phase}
@@ -23,14 +22,6 @@ pub data AfterSlot (a : List Phase) (n i e l j : ℕ) (p : Phase) (m : ℕ) : Wa
       → AfterSlot a n i e l j p m (waiting (Phased (i + 1) 0 (phase_at a (i + 1)).pd 0) (1000 * l - j * p.pri))
   no-phase : m ≤ suc j → 1 ≤ l → l ≤ p.ci → n ≤ i + 1 → AfterSlot a n i e l j p m (waiting Ending (1000 * l - j * p.pri))
 
-more : (l c : ℕ) → (eqb l 0 || ltb c l) ≡ true → 1 ≤ l → c < l
-more zero c t some = absurd (omega arith)
-more (suc l) c t some = ltb-true c (suc l) (rw (eqb-suc-zero l) at t)
-
-no_more : (l c : ℕ) → (eqb l 0 || ltb c l) ≡ false → (1 ≤ l) × (l ≤ c)
-no_more zero c t = absurd (true≢false t)
-no_more (suc l) c t = (omega arith, ltb-false c (suc l) (rw (eqb-suc-zero l) at t))
-
 module _ (a : List Phase) (n i e l j : ℕ) (p : Phase) (m : ℕ) where
   last-interval : m ≤ suc j → 1 ≤ l → l ≤ p.ci → AfterSlot a n i e l j p m (after_phase (schedule_of a n) i (1000 * l - j * p.pri))
   unfolding after_phase
@@ -43,8 +34,8 @@ module _ (a : List Phase) (n i e l j : ℕ) (p : Phase) (m : ℕ) where
   unfolding after_interval
   last-slot last =
       cases (eqb l 0 || ltb p.ci l)
-      (λ t. rw t (next-interval last (more l p.ci t)))
-      (λ t. let s = no_more l p.ci t in rw t (last-interval last s.0 s.1))
+      (λ t. rw t (next-interval last (λ some. grind arith)))
+      (λ t. rw t (last-interval last (grind arith) (grind arith)))
 
   pub after-slot : AfterSlot a n i e l j p m (after_phased (schedule_of a n) i e l j p m)
   unfolding after_phased

@@ -2,9 +2,9 @@
 use mathlib.Core.Path.{◌≡◌}
 use mathlib.Core.List.{List}
 use mathlib.Core.Logic.{◌⊎◌, inl, inr}
-use Prim.Native.Nat.{ℕ, zero, suc, ◌*◌, ◌%◌, max, ◌≤◌, ◌<◌}
+use Prim.Native.Nat.{ℕ, suc, ◌*◌, ◌%◌, max, ◌≤◌, ◌<◌}
 use native.Mathlib.Decide.{dec_le}
-use native.Mathlib.Nat.{mod-eq_of_lt, mul-le-mul_right, mul-zero}
+use native.Mathlib.Nat.{mod-eq_of_lt, mul-le-mul_right}
 use native.Mathlib.Omega.{arith}
 use Rattle.tariff.specs.Tariffs.{phase_at}
 use Rattle.steps.specs.Steps.{pulses_at}
@@ -30,8 +30,7 @@ slot-room m pcx q j ticks most h room =
 
 -- a slot stands before the end of its room, even where slots are 0 apart
 pub slot-before : (j q ticks : ℕ) → suc j * q ≤ ticks → 1 ≤ ticks → j * q < ticks
-slot-before j zero ticks room some = rw (mul-zero j) some
-slot-before j (suc q) ticks room some = omega arith
+slot-before j q ticks room some = grind arith
 
 -- before slot j of an interval with map entry e, l seconds before the end of the phase
 pub record Room (S : ℕ) (p : Phase) (e l j : ℕ) : Type 0 where

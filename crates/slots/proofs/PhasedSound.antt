@@ -2,10 +2,10 @@
 use mathlib.Core.Path.{◌≡◌}
 use mathlib.Core.Bool.{true, ◌&&◌, ◌||◌}
 use mathlib.Core.List.{List, [], ◌∷◌}
-use mathlib.Core.Logic.{◌⊎◌, inl, inr}
+use mathlib.Core.Logic.{◌⊎◌, inl, inr, ⊎_elim}
 use Prim.Native.Nat.{ℕ, zero, suc, ◌*◌, ◌%◌, max, ◌≤◌, ◌<◌}
 use borrow.Author.Tests.{leb-true, eqb-true}
-use borrow.Table.Steps.{cases}
+use Rattle.std.proofs.lemmas.Bool.{or_cases}
 use lib.Dec.{leb, eqb}
 use lib.ListN.{take, drop, length}
 use Rattle.rules.specs.Rules.{sound_phase, sound_phases, ends_before}
@@ -28,7 +28,7 @@ pub record SoundPhase (S : ℕ) (p : Phase) : Type 0 where
   pub short : (p.pd % p.ci ≡ 0) ⊎ (max 1 p.pcx * p.pri ≤ 1000 * (p.pd % p.ci))
 
 short-room : (r ticks room : ℕ) → (eqb r 0 || leb ticks room) ≡ true → (r ≡ 0) ⊎ (ticks ≤ room)
-short-room r ticks room t = cases (eqb r 0) (λ e. inl (eqb-true r 0 e)) (λ e. inr (leb-true ticks room (rw e at t)))
+short-room r ticks room t = ⊎_elim (λ e. inl (eqb-true r 0 e)) (λ e. inr (leb-true ticks room e)) (or_cases (eqb r 0) (leb ticks room) t)
 
 pub sound-phase : (S : ℕ) (p : Phase) → sound_phase S p ≡ true → SoundPhase S p
 unfolding sound_phase

@@ -2,6 +2,7 @@
 use Rattle.std.specs.Prelude.{None}
 use mathlib.Core.Path.{◌≡◌, refl, sym, ◌∙◌, ap}
 use mathlib.Core.Bool.{true, false, ◌||◌, false≢true}
+use mathlib.Core.Logic.{⊎_elim}
 use mathlib.Core.List.{List}
 use Prim.Native.Nat.{ℕ, ◌+◌, ◌-◌, ◌≤◌, ◌<◌}
 use native.Mathlib.Omega.{arith}
@@ -14,7 +15,7 @@ use Rattle.tariff.specs.declared.Phase.{Phase}
 use Rattle.tariff.specs.declared.Tariff.{Tariff}
 use Rattle.tariff.specs.declared.Tariff.TheVariants.{Idle, Endless, Counted, Phased, Ending}
 use Rattle.slots.specs.Slots.{Running, slot_at, no_slot, quiet_for}
-use Rattle.slots.proofs.Order.{by_order, by_equal}
+use Rattle.std.proofs.lemmas.Bool.{cases_lt, cases_eq}
 use Rattle.slots.proofs.From.{from_past, from-before}
 use Rattle.slots.proofs.Ahead.{Good, next_of, slots_of, ahead}
 use Rattle.slots.proofs.Agree.{Agree}
@@ -65,7 +66,7 @@ module _ (S D : ℕ) (a : List Phase) (n : ℕ) (r : Running) (t : Tariff) (w i 
   next-none left u l = at_tick u l ∙ none_left S a n t w g left (u - i)
 
   quiet_next : 1 ≤ next_of t w → quiet_for r i (S - 1) ≡ leb S (next_of t w)
-  quiet_next some = by_order S (next_of t w) (λ l. far l ∙ sym (le-leb S (next_of t w) l)) (λ l. near l ∙ sym (lt-leb S (next_of t w) l))
+  quiet_next some = ⊎_elim (λ l. near l ∙ sym (lt-leb S (next_of t w) l)) (λ l. far l ∙ sym (le-leb S (next_of t w) l)) (cases_lt (next_of t w) S)
     where
       next : NextSlot r i (i + next_of t w)
       next = next-least some
@@ -83,6 +84,7 @@ module _ (S D : ℕ) (a : List Phase) (n : ℕ) (r : Running) (t : Tariff) (w i 
   -- the line knows whether now + S is past the next slot
   pub agree-room : quiet_for r i (S - 1) ≡ room_of S t w
   agree-room =
-      by_equal (next_of t w) 0
+      ⊎_elim
       (λ e. quiet_ever e ∙ sym (room_next S a n t w g ∙ rw (eq-eqb (next_of t w) 0 e)))
       (λ e. quiet_next (omega arith) ∙ sym (room_next S a n t w g ∙ rw (ne_eqb (next_of t w) 0 e)))
+      (cases_eq (next_of t w) 0)

@@ -1,11 +1,9 @@
 -- A fresh tariff and a rate: the tariff that the line keeps is good, and the ticks to its next slot.
 use mathlib.Core.Path.{◌≡◌, refl}
-use mathlib.Core.Bool.{true, ◌&&◌, and-eq-true_iff}
+use mathlib.Core.Bool.{true}
 use mathlib.Core.List.{List}
-use Prim.Native.Nat.{ℕ, zero, suc, ◌*◌, ◌≤◌}
+use Prim.Native.Nat.{ℕ, zero, suc}
 use native.Mathlib.Omega.{arith}
-use borrow.Author.Tests.{leb-true}
-use lib.Dec.{leb}
 use Rattle.rules.specs.Rules.{sound_em, distance_of}
 use Rattle.tariff.specs.Tariffs.{em_of, phased_of, rate_of}
 use Rattle.tariff.specs.declared.Phase.{Phase}
@@ -13,29 +11,12 @@ use Rattle.tariff.specs.declared.Tariff.{Tariff}
 use Rattle.tariff.specs.declared.Tariff.TheVariants.{Idle, Endless, Counted, Phased, Ending}
 use Rattle.slots.proofs.Ahead.{Waits, Good, next_of}
 
--- the rule of an em as facts
-record SoundEm (S C P : ℕ) : Type 0 where
-  pub count : C ≤ 65535
-  pub most : P ≤ 86400000
-  pub far : 2 * S ≤ distance_of C P
-
-sound-em : (S C P : ℕ) → sound_em S C P ≡ true → SoundEm S C P
-unfolding sound_em
-sound-em S C P ok =
-    let rest = (and-eq-true_iff (leb C 65535) (leb P 86400000 && leb (2 * S) (distance_of C P))).0 ok in
-    let last = (and-eq-true_iff (leb P 86400000) (leb (2 * S) (distance_of C P))).0 rest.1 in
-    record {
-      count = leb-true C 65535 rest.0;
-      most = leb-true P 86400000 last.0;
-      far = leb-true (2 * S) (distance_of C P) last.1;
-    }
-
 module _ (S : ℕ) (a : List Phase) (n : ℕ) where
   -- an em that is accepted
   pub good-em : (C P w : ℕ) → sound_em S C P ≡ true → Waits w → Good S a n (em_of C P) w
-  unfolding em_of distance_of
-  good-em zero P w ok waits = omega (arith, waits, sound-em S zero P ok)
-  good-em (suc c) P w ok waits = omega (arith, waits, sound-em S (suc c) P ok)
+  unfolding em_of sound_em distance_of
+  good-em zero P w ok waits = grind arith
+  good-em (suc c) P w ok waits = grind arith
 
   -- a rate that is accepted
   pub good-rate : (P : ℕ) (t : Tariff) (w : ℕ) → sound_em S 0 P ≡ true → Good S a n t w → Good S a n (rate_of P t) w

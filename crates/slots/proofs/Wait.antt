@@ -14,7 +14,6 @@ use Rattle.tariff.specs.declared.Tariff.{Tariff}
 use Rattle.tariff.specs.declared.Tariff.TheVariants.{Idle, Endless, Counted, Phased, Ending}
 use Rattle.slots.specs.Slots.{never_end}
 use Rattle.tariff.proofs.PhasedList.{after}
-use Rattle.slots.proofs.Order.{eqb_same}
 use Rattle.slots.proofs.From.{from-before, from-same}
 use Rattle.slots.proofs.Ahead.{Waits, Good, next_of, slots_of, ahead, completes_in}
 use Rattle.slots.proofs.Agree.{Next, waits}
@@ -43,10 +42,10 @@ module _ (a : List Phase) (n : ℕ) where
   unfolding completes_in
   wait-ends D Idle w more y = refl
   wait-ends D (Endless P) w more y = refl
-  wait-ends D (Counted C P k) w more y = eqb_same y _ (suc y) _ (omega arith)
+  wait-ends D (Counted C P k) w more y = grind arith
   wait-ends D (Phased i e l j) w more y =
-      ap (λ (b : Bool). not (eqb l 0 || never_end (after a n i)) && b) (eqb_same y _ (suc y) _ (omega arith))
-  wait-ends D Ending w more y = eqb_same y (w - 1) (suc y) w (omega arith)
+      ap (λ (b : Bool). not (eqb l 0 || never_end (after a n i)) && b) (grind arith)
+  wait-ends D Ending w more y = grind arith
 
   module _ (S : ℕ) where
     pub wait-good : (t : Tariff) (w : ℕ) → Good S a n t w → 1 < w → Good S a n t (w - 1)
