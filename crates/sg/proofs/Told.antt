@@ -1,13 +1,13 @@
 -- The notes of a text tell what it gives: its faults, which names are there, and their values.
-use Prim.Native.Nat.{ℕ, zero, suc, ◌≤◌, ◌<◌}
+use Prim.Native.Nat.{ℕ, ◌≤◌, ◌<◌}
 use native.Mathlib.Omega.{arith}
 use mathlib.Core.Bool.{Bool, true, false, cond, ◌||◌, ◌&&◌, true≢false as no, or-false, or_assoc}
 use mathlib.Core.List.{List, [], ◌∷◌}
 use mathlib.Core.Path.{◌≡◌, refl, sym, ap, subst, ◌∙◌}
-use borrow.Author.Tests.{eqb-true, eqb-false, leb-true}
-use lib.Dec.{leb, ltb, eqb}
-use lib.ListN.{length, get_or, replicate}
-use Rattle.tariff.proofs.Both.{both_left, both_right}
+use borrow.Author.Tests.{eqb-true, eqb-false, leb-true, lt-ltb}
+use lib.Dec.{leb, eqb}
+use lib.ListN.{length, get_or-replicate}
+use Rattle.std.proofs.lemmas.Bool.{and_parts, or_parts}
 use Rattle.grammar.specs.Grammar.{Row, none, ◌▹◌, single, list, Item, keep, valued, Signal, bare, braced, Text, empty, signals, bytes}
 use Rattle.grammar.specs.Meaning.{Known, ◌↣◌, known_signals, items_of, keep_slot, Form, alone, with_number, with_list, Given, given, item_by, items_by, signal_by, signals_by, text_by, has, listed, values_of, form_is_wrong, any_too_large, any_faulty}
 use Rattle.notes.specs.Noting.{no_values, values_at, slot_in, item_slot, signal_slot, no_notes, has_in, touch_of, stored_of, value_of, marked_of, signal_of, item_of, list_of}
@@ -15,7 +15,7 @@ use Rattle.notes.specs.declared.Notes.{Notes}
 use Rattle.scanner.specs.Codes.{code_of, number_of}
 use Rattle.sg.specs.Readings.{item_notes, items_notes, signal_notes, signals_notes, text_notes}
 use Rattle.sg.proofs.Codes.{items_all}
-use Rattle.sg.proofs.Stored.{item_coded, signal_coded, numbers, values_notes, Noted, values-noted, numbers-noted, Holds, values_other, values-own, or_left, or_right}
+use Rattle.sg.proofs.Stored.{item_coded, signal_coded, numbers, values_notes, Noted, values-noted, numbers-noted, Holds, values_other, values-own}
 
 abbrev item_on : ℕ → Item → Given
 item_on s i = item_by item_coded signal_coded number_of s i
@@ -68,11 +68,7 @@ module _ {es : Row Given} {n : Notes} (h : Tells es n) (s : ℕ) (f : Form) (vs 
       at true q = refl
       at false q =
           let ne = eqb-false s 17 q in
-          let lower : s < 17 = below s low ne in
-          rw (h.told-has e s lower) (or_assoc (has es s) (form_is_wrong s f) (any_too_large (vs ▹ v)))
-        where
-          below : (s : ℕ) → s ≤ 17 → (s ≡ 17 → ⊥) → s < 17
-          below s a b = omega arith
+          rw (h.told-has e s (omega arith)) (or_assoc (has es s) (form_is_wrong s f) (any_too_large (vs ▹ v)))
 
   fault : Bool
   fault = eqb s 17 || (has es s || (form_is_wrong s f || any_too_large (vs ▹ v)))
@@ -80,19 +76,17 @@ module _ {es : Row Given} {n : Notes} (h : Tells es n) (s : ℕ) (f : Form) (vs 
   module _ (e : any_faulty (es ▹ given s f vs v) ≡ false) where
     before : any_faulty es ≡ false
     unfolding fault
-    before = or_left (any_faulty es) fault e
+    before = (or_parts (any_faulty es) fault e).0
 
     known : has es s || (form_is_wrong s f || any_too_large (vs ▹ v)) ≡ false
     unfolding fault
-    known = or_right (eqb s 17) (has es s || (form_is_wrong s f || any_too_large (vs ▹ v))) (or_right (any_faulty es) fault e)
+    known = (or_parts (eqb s 17) (has es s || (form_is_wrong s f || any_too_large (vs ▹ v))) (or_parts (any_faulty es) fault e).1).1
 
     fits : any_too_large (vs ▹ v) ≡ false
-    fits =
-        or_right (form_is_wrong s f) (any_too_large (vs ▹ v))
-        (or_right (has es s) (form_is_wrong s f || any_too_large (vs ▹ v)) known)
+    fits = (or_parts (form_is_wrong s f) (any_too_large (vs ▹ v)) (or_parts (has es s) (form_is_wrong s f || any_too_large (vs ▹ v)) known).1).1
 
     alone-there : values_of es s ≡ []
-    alone-there = not_there es s (or_left (has es s) (form_is_wrong s f || any_too_large (vs ▹ v)) known)
+    alone-there = not_there es s (or_parts (has es s) (form_is_wrong s f || any_too_large (vs ▹ v)) known).0
 
     more-has : (r : ℕ) → r < 17 → has_in (add_given n (given s f vs v)).values r ≡ eqb r s || has es r
     more-has r less = at (eqb r s) refl
@@ -152,8 +146,8 @@ slot-low : (ks : List Known) (c : ℕ) → low_slots ks ≡ true → slot_in ks 
 unfolding low_slots
 slot-low [] c e = omega arith
 slot-low ((w ↣ k) ∷ ks) c e =
-    at (eqb c (code_of (bytes w))) (leb-true k 17 (both_left (leb k 17) (low_slots ks) e))
-    (slot-low ks c (both_right (leb k 17) (low_slots ks) e))
+    let both = and_parts (leb k 17) (low_slots ks) e in
+    at (eqb c (code_of (bytes w))) (leb-true k 17 both.0) (slot-low ks c both.1)
   where
     at : (t : Bool) {a b : ℕ} → a ≤ 17 → b ≤ 17 → cond t a b ≤ 17
     at true p q = p
@@ -217,29 +211,23 @@ signal-told : {es : Row Given} {n : Notes} (s : Signal) → Tells es n → Tells
 signal-told (bare m) h = (name-told (code_of m) h).tells
 signal-told (braced m is i) h = (item_told i (items_told is (name-told (code_of m) h))).tells
 
-blanks : (n s : ℕ) → get_or (replicate n no_values) s no_values ≡ no_values
-blanks zero s = refl
-blanks (suc n) zero = refl
-blanks (suc n) (suc s) = blanks n s
+no_values_at : (s : ℕ) → s < 17 → values_at no_notes.values s ≡ no_values
+no_values_at s less = get_or-replicate 18 s no_values no_values (omega arith)
 
-nothing-kept : (s : ℕ) → values_at no_notes.values s ≡ []
-nothing-kept s = blanks 18 s
+nothing-kept : (s : ℕ) → s < 17 → values_at no_notes.values s ≡ []
+nothing-kept s less = no_values_at s less
 
-nothing-given : (s : ℕ) → has_in no_notes.values s ≡ false
+nothing-given : (s : ℕ) → s < 17 → has_in no_notes.values s ≡ false
 unfolding has_in
-nothing-given s = at (ltb s 18)
-  where
-    at : (t : Bool) → ltb 0 (cond t (length (values_at no_notes.values s)) 0) ≡ false
-    at false = refl
-    at true = ap (λ (x : List ℕ). ltb 0 (length x)) (nothing-kept s)
+nothing-given s less = rw (lt-ltb s 18 (omega arith), no_values_at s less)
 
 signals-told : (ss : Row Signal) → Tells (signals_on ss) (signals_notes ss)
 signals-told none =
     record {
       told-bad = refl;
       told-size = refl;
-      told-has = λ e s less. nothing-given s;
-      told-values = λ e s less. record { rows = refl; keeps = nothing-kept s };
+      told-has = λ e s less. nothing-given s less;
+      told-values = λ e s less. record { rows = refl; keeps = nothing-kept s less };
     }
 signals-told (ss ▹ s) = signal-told s (signals-told ss)
 
