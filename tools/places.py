@@ -146,7 +146,7 @@ def point_7():
                 yield path, line_of(text, at), f"fn {name}: {len(tests)} tests"
 
 
-WORD = r"[^\s(){}.;,@\"«»\[\]]+"
+WORD = r"[^\s(){}.;:,@\"«»\[\]]+"
 HEAD = r"( *)(?:(?:abbrev|unfoldable|pub) )*(" + WORD + r")(?= |$)"
 
 
