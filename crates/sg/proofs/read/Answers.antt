@@ -5,7 +5,9 @@ use Rattle.sg.proofs.read.Goals as goal
 use Rattle.sg.proofs.read.Goals.{in-Some, in_default}
 
 pub returns-then-eq : goal.returns-then-eq
-returns-then-eq c = search (rules, refuses)
+returns-then-eq c =
+    let l = c.loop-b in
+    refuses c.args.text.now l.b-index l.scanner c.step-turn.result (omega arith) l.invariant.scanner-is c.step-turn.ensures (search rules)
 
 pub loop-b-preserved : goal.loop-b-preserved
 loop-b-preserved c =
