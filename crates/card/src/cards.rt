@@ -4,10 +4,10 @@ use descriptor::Descriptor;
 use dispatcher::Dispatcher;
 use line::{Answered, Asked, Line};
 use outlet::Outlet;
-use printing::Answer;
+use printing::{Answer, answer_text, asked_text};
 use script::Giving;
 use std::io;
-use std::io::Stdout;
+use std::io::{Stdout, Write};
 
 // A card: room for its lines, how many there are, the number of ticks so far, held at the largest number, the
 // dispatcher, and the descriptor that waits for phase lines, if one does.
@@ -22,9 +22,8 @@ pub struct Card {
 }
 
 // Puts an answer.
-// Stays: one line in each program, since printing knows no outlet.
 pub(crate) fn put_answer(out: &mut Outlet<Stdout>, answer: Answer) -> io::Result<()> {
-    out.put(|free| printing::put_answer(free, 0, answer))
+    out.write_all(answer_text(answer).as_slice())
 }
 
 impl Card {
@@ -97,5 +96,5 @@ impl Card {
 // Puts what asking tells.
 fn put_asked(out: &mut Outlet<Stdout>, told: Asked) -> io::Result<()> {
     let answer = Answer::from(told.verdict);
-    out.put(|free| printing::put_asked(free, 0, answer, told.ticket))
+    out.write_all(asked_text(answer, told.ticket).as_slice())
 }

@@ -6,15 +6,15 @@ use descriptor::Descriptor;
 use line::{Audited, Line};
 use outlet::Outlet;
 use phase_lines::{Phases, Waiting};
-use printing::Answer;
+use printing::{Answer, counters_text};
 use programs::Program;
 use script::{CardCommand, Command, Giving};
 use std::io;
-use std::io::Stdout;
+use std::io::{Stdout, Write};
 
 // Puts the counters of a line.
 fn put_counters(out: &mut Outlet<Stdout>, audit: Audited) -> io::Result<()> {
-    out.put(|free| printing::put_counters(free, 0, audit.cpc, audit.pcslr))
+    out.write_all(counters_text(audit.cpc, audit.pcslr).as_slice())
 }
 
 // The descriptor that stands as a text in a line of a script, from a byte on.

@@ -2,17 +2,16 @@
 use super::cards::{Card, put_answer};
 use dispatcher::Notice;
 use outlet::Outlet;
-use printing::Answer;
+use printing::{Answer, notice_text};
 use std::io;
-use std::io::Stdout;
+use std::io::{Stdout, Write};
 
 // Puts the notice of a tick.
 fn put_notice(out: &mut Outlet<Stdout>, tick: u32, notice: Notice) -> io::Result<()> {
     let place = notice.place.min(65) as u32;
     let told = notice.told;
-    out.put(|free| {
-        printing::put_notice(free, 0, tick, place, told.tariff, told.burst, told.reports)
-    })
+    let text = notice_text(tick, place, told.tariff, told.burst, told.reports);
+    out.write_all(text.as_slice())
 }
 
 impl Card {

@@ -3,12 +3,12 @@ use answers::Tick;
 use line::{Answered, Line};
 use outlet::Outlet;
 use phase_lines::{Phases, Waiting};
-use printing::Answer;
+use printing::{Answer, answer_text, tick_text};
 use programs::Program;
 use script::Command;
 use state::State;
 use std::io;
-use std::io::Stdout;
+use std::io::{Stdout, Write};
 
 // A gateway: its line, once a configuration was accepted, and the descriptor that waits for phase lines, if one does.
 #[derive(Clone, Copy)]
@@ -18,9 +18,8 @@ pub struct Gateway {
 }
 
 // Puts an answer.
-// Stays: one line in each program, since printing knows no outlet.
 fn put_answer(out: &mut Outlet<Stdout>, answer: Answer) -> io::Result<()> {
-    out.put(|free| printing::put_answer(free, 0, answer))
+    out.write_all(answer_text(answer).as_slice())
 }
 
 // Puts what a tick tells, if it tells something.
@@ -28,7 +27,7 @@ fn put_tick(out: &mut Outlet<Stdout>, clock: u32, cpc: u32, tick: Tick) -> io::R
     if tick == Tick::default() {
         return Ok(());
     }
-    out.put(|free| printing::put_tick(free, 0, clock, cpc, tick))
+    out.write_all(tick_text(clock, cpc, tick).as_slice())
 }
 
 // The state after the quiet ticks that come first among n, on a line of this pulse length and spacing, and how many of

@@ -6,7 +6,7 @@ use Rattle.std.specs.Io.KnownBytes.{Appends, Keeps, append_known}
 use Rattle.std.proofs.lemmas.List.{drop-take, take_at, take-append-drop}
 use Rattle.std.proofs.Math.Seq.{length-take-le, length-paste}
 use Rattle.outlet.specs.declared.Outlet.{Outlet}
-use Rattle.outlet.specs.Texts.{held_of, known_of}
+use Rattle.outlet.specs.Held.{held_of, known_of}
 
 keeps : (a b : Option (List ℕ)) (xs ys : List ℕ) → Appends a b xs → Keeps (append_known a (xs ++ ys)) (append_known b ys)
 keeps None b xs ys h = tt

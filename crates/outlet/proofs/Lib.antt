@@ -1,3 +1,2 @@
--- The laws of a text that is put, and of what is written out and held back.
-pub mod TextLaws
+-- The laws of what is written out and held back.
 pub mod KnownLaws

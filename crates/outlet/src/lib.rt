@@ -1,9 +1,9 @@
 // Output by way of a buffer.
 #![tactic(auto)]
 
-ghost use Rattle.std.specs.Prelude.{◌≡◌, ◌+◌, ◌≤◌, length, take, is_some, OnOk, IfOk};
+ghost use Rattle.std.specs.Prelude.{◌≡◌, ◌+◌, ◌≤◌, length, take, OnOk, IfOk};
 ghost use Rattle.std.specs.Io.KnownBytes.{Appends, Keeps};
-ghost use Rattle.outlet.specs.Texts.{Tries, Puts, held_of, known_of};
+ghost use Rattle.outlet.specs.Held.{held_of, known_of};
 
 use std::io;
 use std::io::{ErrorKind, Write};
@@ -38,32 +38,6 @@ impl<W: Write> Outlet<W> {
         let held = self.held.min(self.buf.len());
         self.held = 0;
         self.to.write_all(&self.buf[..held])
-    }
-
-    // Puts a text behind what is held back, and tells whether it has room there.
-    fn append<F: FnMut(&mut [u8]) -> Option<usize>>(&mut self, text: &mut F) -> bool
-        requires { F.IsAlwaysCallable text.old }
-        ensures callable { F.IsAlwaysCallable text.new }
-        ensures put { (size : _) × Tries F.FnMut text.old self.old size text.new self.new × (result ≡ is_some size) }
-    {
-        let held = self.held.min(self.buf.len());
-        let size = text(&mut self.buf[held..]);
-        self.held = held + size.unwrap_or(0).min(self.buf.len() - held);
-        size.is_some()
-    }
-
-    // Puts a text: `text` puts it at the front of the free part of the buffer, and answers how long it is. Where it
-    // answers None, what is held back is written out, and it is called once more, at the whole buffer. A text that has no
-    // room there either is not put.
-    pub fn put<F: FnMut(&mut [u8]) -> Option<usize>>(&mut self, mut text: F) -> io::Result<()>
-        requires { F.IsAlwaysCallable text }
-        ensures { Puts F.FnMut W.contents text self.old result self.new }
-    {
-        if !self.append(&mut text) {
-            self.flush()?;
-            self.append(&mut text);
-        }
-        Ok(())
     }
 
     // Holds back bytes that have room.

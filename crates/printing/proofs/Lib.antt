@@ -1,3 +1,4 @@
--- The laws of digits and of texts put one after the other.
+-- The laws of digits, of what has room in a text, and of the lengths of texts.
 pub mod DigitLaws
-pub mod BufferLaws
+pub mod RoomLaws
+pub mod LengthLaws

@@ -1,6 +1,6 @@
 -- The definitions that the contracts cite, lowest first.
 pub mod Bytes
 pub mod Text
-pub mod Buffer
+pub mod Room
 pub mod Examples
 pub mod Answers

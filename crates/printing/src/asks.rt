@@ -1,32 +1,30 @@
-// The text that answers an ask.
-ghost use Rattle.std.specs.Prelude.{◌≡◌, ◌+◌, ◌≤◌, length};
-ghost use Rattle.printing.specs.Text.{asked_text};
-ghost use Rattle.printing.specs.Buffer.{Put, longest, written};
+// The text that answers a command, and the text that answers an ask.
+ghost use Rattle.std.specs.Prelude.{◌≡◌};
+ghost use Rattle.printing.specs.Text.{answer_text, asked_text};
 
 use super::Answer;
-use super::buffer::{has_room, put_text};
-use super::notices::put_two;
+use super::text::{Text, pair};
 
-// Puts the line of an answer with a ticket.
-fn put_ticket(buf: &mut [u8], at: usize, answer: Answer, ticket: u32) -> usize
-    requires { at + longest ≤ length buf.old }
-    ensures { Put buf.old at (asked_text answer ticket) buf.new result }
+// The line of an answer.
+pub fn answer_text(answer: Answer) -> Text
+    ensures { result ≡ answer_text answer }
 {
+    let mut text = Text::new();
     match answer {
-        Answer::Ok(cancelled) => put_two(buf, at, b"ok ", cancelled, ticket),
-        Answer::No(number) => put_two(buf, at, b"no ", number, ticket),
-        Answer::Bad => put_text(buf, at, b"bad\n"),
+        Answer::Ok(cancelled) => text.put_around(b"ok ", cancelled, b"\n"),
+        Answer::No(number) => text.put_around(b"no ", number, b"\n"),
+        Answer::Bad => text.put(b"bad\n"),
     }
+    text
 }
 
-// Puts the line that answers an ask from `at` on, and answers the place after it; None where the longest
-// text has no room, and the buffer stays.
-pub fn put_asked(buf: &mut [u8], at: usize, answer: Answer, ticket: u32) -> Option<usize>
-    ensures { (result, buf.new) ≡ written buf.old at (asked_text answer ticket) }
+// The line that answers an ask: an answer with a ticket.
+pub fn asked_text(answer: Answer, ticket: u32) -> Text
+    ensures { result ≡ asked_text answer ticket }
 {
-    if has_room(buf, at) {
-        Some(put_ticket(buf, at, answer, ticket))
-    } else {
-        None
+    match answer {
+        Answer::Ok(cancelled) => pair(b"ok ", cancelled, ticket),
+        Answer::No(number) => pair(b"no ", number, ticket),
+        Answer::Bad => answer_text(answer),
     }
 }

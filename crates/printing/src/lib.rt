@@ -5,14 +5,15 @@ ghost use Rattle.std.specs.Prelude.{◌≡◌};
 ghost use Rattle.printing.specs.Answers.{answer_of};
 
 mod asks;
-mod buffer;
 mod notices;
 mod text;
+mod ticks;
 
-pub use asks::put_asked;
+pub use asks::{answer_text, asked_text};
 use descriptor::Refusal;
-pub use notices::{put_counters, put_notice};
-pub use text::{put_answer, put_tick};
+pub use notices::{counters_text, notice_text};
+pub use text::Text;
+pub use ticks::tick_text;
 
 // What a command is answered: the burst pulses cancelled, the number of a refusal, or neither.
 // Stays: three answers of the language; `Option<Result<u32, u32>>` is no plainer and no longer names `bad`.

@@ -1,6 +1,6 @@
 -- What is written and held back stays the same.
 use Rattle.std.specs.Io.KnownBytes.{Keeps}
-use Rattle.outlet.specs.Texts.{known_of, held_of}
+use Rattle.outlet.specs.Held.{known_of, held_of}
 use Rattle.outlet.proofs.OutletWrite.flush.Given as goal
 
 abbrev pub invariant-loop-self : goal.invariant-loop-self

@@ -1,4 +1,4 @@
-use Rattle.outlet.specs.Texts.{known_of}
+use Rattle.outlet.specs.Held.{known_of}
 use Rattle.outlet.proofs.KnownLaws.{kept_then}
 use Rattle.outlet.proofs.OutletWrite.write.Goals as goal
 use Rattle.outlet.proofs.OutletWrite.write.Goals.{then-self-ge65536+in_ok-write_some, else-self-ge65536}
