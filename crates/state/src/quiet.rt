@@ -4,6 +4,7 @@ ghost use Rattle.state.specs.States.{quiet_of, waited_of, quick_of};
 
 use super::{Moved, State};
 use answers::Tick;
+use burst::Burst;
 
 impl State {
     // Whether the next tick is quiet, on a line of this pulse length and spacing.
@@ -14,7 +15,7 @@ impl State {
         let since = burst::held_more(spacing, self.since);
         let waits = 1 < self.wait || self.tariff.is_idle();
         let ends = self.since < pulse && pulse <= since;
-        waits && !ends && self.burst.is_quiet(pulse, spacing <= since)
+        waits && !ends && burst::is_quiet(self.burst, pulse, spacing <= since)
     }
 
     // After a quiet tick.
@@ -26,7 +27,7 @@ impl State {
             wait: self.wait.saturating_sub(1),
             clock: self.clock.wrapping_add(1),
             since: burst::held_more(spacing, self.since),
-            burst: self.burst.older(),
+            burst: self.burst.map(Burst::older),
             ..self
         }
     }
