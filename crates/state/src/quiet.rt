@@ -4,7 +4,6 @@ ghost use Rattle.state.specs.States.{quiet_of, waited_of, quick_of};
 
 use super::{Moved, State};
 use answers::Tick;
-use burst::Burst;
 
 impl State {
     // Whether the next tick is quiet, on a line of this pulse length and spacing.
@@ -18,18 +17,25 @@ impl State {
         waits && !ends && burst::is_quiet(self.burst, pulse, spacing <= since)
     }
 
-    // After a quiet tick.
+    // A quiet tick.
     #[tactic(auto, unfolding(crate::specs::States::waited_of))]
-    pub fn waited(self, spacing: u32) -> State
+    pub fn tick_quietly(&mut self, spacing: u32)
+        ensures { self.new ≡ waited_of spacing self.old }
+    {
+        self.wait = self.wait.saturating_sub(1);
+        self.clock = self.clock.wrapping_add(1);
+        self.since = burst::held_more(spacing, self.since);
+        if let Some(burst) = &mut self.burst {
+            *burst = burst.older();
+        }
+    }
+
+    // After a quiet tick.
+    pub fn waited(mut self, spacing: u32) -> State
         ensures { result ≡ waited_of spacing self }
     {
-        State {
-            wait: self.wait.saturating_sub(1),
-            clock: self.clock.wrapping_add(1),
-            since: burst::held_more(spacing, self.since),
-            burst: self.burst.map(Burst::older),
-            ..self
-        }
+        self.tick_quietly(spacing);
+        self
     }
 
     // The tick where it is quiet; none where more may happen than that time goes on.
