@@ -2,22 +2,21 @@
 #![tactic(auto)]
 
 ghost use Rattle.std.specs.Prelude.{◌≡◌, ◌-◌};
-ghost use Rattle.burst.specs.Bursts.{no_burst, start_of, is_running, held_more, older_of, completes_of, aged_of, is_due, burst_quiet, begun_of};
+ghost use Rattle.burst.specs.Bursts.{start_of, is_running, burst_owed, held_more, older_of, completes_of, aged_of, is_due, any_due, burst_quiet, begun_of};
 
-// The pulses owed, the least distance of its fronts, and the ticks since its last front, held at that distance. Where the
-// distance is 0 none runs.
-// A burst that runs has a distance of the spacing at least, so that 0 says by itself that none runs.
-#[derive(Clone, Copy, PartialEq, Eq, Debug, Default)]
+// A burst that runs: the pulses owed, the least distance of its fronts, and the ticks since its last front, held at that
+// distance.
+#[derive(Clone, Copy, PartialEq, Eq, Debug)]
 pub struct Burst {
     pub owed: u32,
     pub distance: u32,
     pub since: u32,
 }
 
-// A burst one tick on, and whether it is complete.
+// A burst or none one tick on, and whether it is complete.
 #[derive(Clone, Copy, PartialEq, Eq, Debug)]
 pub struct Aged {
-    pub burst: Burst,
+    pub burst: Option<Burst>,
     pub complete: bool,
 }
 
@@ -29,13 +28,6 @@ pub fn held_more(n: u32, k: u32) -> u32
 }
 
 impl Burst {
-    // None runs.
-    pub fn none() -> Burst
-        ensures { result ≡ no_burst }
-    {
-        Burst::default()
-    }
-
     // A burst of so many pulses, whose distance has passed.
     pub fn start(pulses: u32, distance: u32) -> Burst
         ensures { result ≡ start_of pulses distance }
@@ -45,12 +37,6 @@ impl Burst {
             distance,
             since: distance,
         }
-    }
-
-    pub fn is_running(self) -> bool
-        ensures { result ≡ is_running self }
-    {
-        0 < self.distance
     }
 
     // One tick on, while it runs on.
@@ -68,25 +54,7 @@ impl Burst {
     pub fn completes(self, pulse: u32) -> bool
         ensures { result ≡ completes_of pulse self }
     {
-        self.is_running() && self.owed == 0 && held_more(self.distance, self.since) == pulse
-    }
-
-    // One tick on.
-    #[tactic(auto, unfolding(crate::specs::Bursts::aged_of))]
-    pub fn aged(self, pulse: u32) -> Aged
-        ensures { result ≡ aged_of pulse self }
-    {
-        if self.completes(pulse) {
-            Aged {
-                burst: Burst::none(),
-                complete: true,
-            }
-        } else {
-            Aged {
-                burst: self.older(),
-                complete: false,
-            }
-        }
+        self.owed == 0 && held_more(self.distance, self.since) == pulse
     }
 
     // Whether a pulse is owed, and its distance has passed.
@@ -94,18 +62,6 @@ impl Burst {
         ensures { result ≡ is_due self }
     {
         0 < self.owed && self.distance <= self.since
-    }
-
-    // Whether nothing of it happens one tick on, where `passed` says whether S ticks will have passed since the last front.
-    #[tactic(auto, unfolding(crate::specs::Bursts::burst_quiet))]
-    pub fn is_quiet(self, pulse: u32, passed: bool) -> bool
-        ensures { result ≡ burst_quiet pulse passed self }
-    {
-        if self.is_running() {
-            !self.completes(pulse) && !(self.older().is_due() && passed)
-        } else {
-            self.owed == 0
-        }
     }
 
     // After a front of it.
@@ -118,4 +74,50 @@ impl Burst {
             ..self
         }
     }
+}
+
+pub fn is_running(burst: Option<Burst>) -> bool
+    ensures { result ≡ is_running burst }
+{
+    burst.is_some()
+}
+
+// The pulses that a burst or none owes.
+pub fn owed(burst: Option<Burst>) -> u32
+    ensures { result ≡ burst_owed burst }
+{
+    burst.map_or(0, |b| b.owed)
+}
+
+// Whether a burst runs of which a pulse is due.
+pub fn is_due(burst: Option<Burst>) -> bool
+    ensures { result ≡ any_due burst }
+{
+    burst.is_some_and(Burst::is_due)
+}
+
+// A burst or none one tick on.
+#[tactic(auto, unfolding(crate::specs::Bursts::aged_of))]
+pub fn age(burst: Option<Burst>, pulse: u32) -> Aged
+    ensures { result ≡ aged_of pulse burst }
+{
+    match burst {
+        Some(b) if b.completes(pulse) => Aged {
+            burst: None,
+            complete: true,
+        },
+        _ => Aged {
+            burst: burst.map(Burst::older),
+            complete: false,
+        },
+    }
+}
+
+// Whether nothing of a burst or none happens one tick on, where `passed` says whether S ticks will have passed since the
+// last front.
+#[tactic(auto, unfolding(crate::specs::Bursts::burst_quiet))]
+pub fn is_quiet(burst: Option<Burst>, pulse: u32, passed: bool) -> bool
+    ensures { result ≡ burst_quiet pulse passed burst }
+{
+    burst.is_none_or(|b| !b.completes(pulse) && !(passed && b.older().is_due()))
 }

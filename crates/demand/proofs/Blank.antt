@@ -17,7 +17,7 @@ use Rattle.steps.specs.Steps.{due_of, step_of}
 use Rattle.tariff.specs.declared.Tariff.TheVariants.{Idle}
 use Rattle.phase_lists.specs.Lists.{Lists, phases_of, sound_lists}
 use Rattle.descriptor.specs.Refusals.{ruling, sound_configuration, tariff_causes, burst_causes}
-use Rattle.burst.specs.Bursts.{is_running, held_more, aged_of, is_due}
+use Rattle.burst.specs.Bursts.{is_running, held_more, aged_of, any_due}
 use Rattle.ticking.specs.Moves.{moved_by}
 use Rattle.line.specs.Lines.{blank_line, make_of, with_serial, ask_of, hook_of, period_of, no_period_of, audit_of, answered_by, scheduled, tariff_changed, burst_changed, with_period, move_of, tick_of}
 use Rattle.line.specs.declared.Line.{Line}
@@ -91,7 +91,7 @@ module _ (i : ℕ) where
   front-due : (l : Line) → Quiet i l → i + 1 < 4294967295 → (move_of l).tick.front ≡ None
   unfolding moved_by step_of due_of
   front-due l x early =
-      rw (x.tariff, x.wait, lt-leb l.spacing (held_more l.spacing l.state.since) (omega (arith, x.spacing, x.since, early)), and-false (is_due (aged_of l.pulse l.state.burst).burst))
+      rw (x.tariff, x.wait, lt-leb l.spacing (held_more l.spacing l.state.since) (omega (arith, x.spacing, x.since, early)), and-false (any_due (aged_of l.pulse l.state.burst).burst))
 
   tick-quiet : (l : Line) → Quiet i l → Quiet (i + 1) (tick_of l).line
   unfolding tick_of moved_by step_of due_of

@@ -32,7 +32,7 @@ pub record Left (S : ℕ) (l : Line) (n K j r done : ℕ) : Type 0 where
   pub distance : ℕ
   pub own : ℕ
   pub first : ℕ
-  pub owing : l.state.burst ≡ burst_with (suc others) distance own
+  pub owing : l.state.burst ≡ Some (burst_with (suc others) distance own)
   pub wide : S ≤ distance
   pub count : suc others + done ≡ n
   pub within : Within S l.state.since distance own (next_of l.state.tariff l.state.wait) first
@@ -120,7 +120,7 @@ module _ (S : ℕ) (z : 1 ≤ S) (n K j r done : ℕ) (l l' : Line) (e : Entry) 
         own = 0;
         first = x.distance + 2 * S;
         wide = x.wide;
-        owing = u ∙ ap (λ (m : ℕ). burst_with m x.distance 0) (omega arith);
+        owing = u ∙ ap (λ (m : ℕ). Some (burst_with m x.distance 0)) (omega arith);
         count = rw f (omega arith);
         within = rw w (late x.distance (omega (arith, x.wide)) (omega arith));
         low = rw t (omega (arith, x.low, one_fewer x.others (x.distance + 2 * S) more));
@@ -130,10 +130,10 @@ module _ (S : ℕ) (z : 1 ≤ S) (n K j r done : ℕ) (l l' : Line) (e : Entry) 
       burst-more f b c = let d = rw f at b in omega arith
 
 -- an accepted start of n pulses leaves them all owed
-burst-started : (D S i n P : ℕ) (b : Started) (u : Burst) → b ≡ started n P 0 never → BurstAt D S i b u → u ≡ burst_with n (max P S) (max P S)
+burst-started : (D S i n P : ℕ) (b : Started) (u : Option Burst) → b ≡ started n P 0 never → BurstAt D S i b u → u ≡ Some (burst_with n (max P S) (max P S))
 burst-started D S i n P b u e x = by u (rw e at x)
   where
-    by : (u : Burst) → BurstAt D S i (started n P 0 never) u → u ≡ burst_with n (max P S) (max P S)
+    by : (u : Option Burst) → BurstAt D S i (started n P 0 never) u → u ≡ Some (burst_with n (max P S) (max P S))
     by u (runs {m = m} {s = s} p q y on) =
         let k : m ≡ n = omega arith in
         rw (k, q)
@@ -232,7 +232,7 @@ find n (e ∷ rest) o h = by (dec_le n (begun rest)) (λ p. find n rest o p)
         }
 
 -- an accepted start asks for a pulse at least
-started-some : (D S i n P : ℕ) (u : Burst) → BurstAt D S i (started n P 0 never) u → 1 ≤ n
+started-some : (D S i n P : ℕ) (u : Option Burst) → BurstAt D S i (started n P 0 never) u → 1 ≤ n
 started-some D S i n P u (runs {m = zero} p q y on) = absurd (let f = on refl in let o : ◌≡◌ {A = ℕ} 0 1 = cc in omega arith)
 started-some D S i n P u (runs {m = suc m} p q y on) = omega arith
 

@@ -22,9 +22,9 @@ use Rattle.descriptor.specs.declared.TariffPart.TheVariants.{None as NoTariff, K
 use Rattle.descriptor.specs.declared.BurstPart.{BurstPart}
 use Rattle.descriptor.specs.declared.BurstPart.TheVariants.{None as NoBurst, Keep as KeepBurst, Start}
 use Rattle.descriptor.specs.Names.{Ruling}
-use Rattle.std.specs.Prelude.{Ok, Err, None, Some, Option}
+use Rattle.std.specs.Prelude.{Ok, Err, None, Some, Option, IfSome}
 use Rattle.descriptor.specs.declared.Hook.TheVariants.{Keep, Stop}
-use Rattle.burst.specs.Bursts.{no_burst, is_running, held_more, completes_of, aged_of, is_due}
+use Rattle.burst.specs.Bursts.{no_burst, is_running, held_more, completes_of, aged_of, any_due}
 use Rattle.burst.specs.declared.Burst.{Burst}
 use Rattle.burst.specs.declared.Aged.{Aged}
 use Rattle.state.specs.Rules.{one_more, report_due}
@@ -55,7 +55,7 @@ pub record CountersBounded (n : Counters) : Type 0 where
 pub record StateBounded (S : ℕ) (s : State) : Type 0 where
   pub clock : s.clock < 2 ^ 32
   pub since : s.since ≤ S
-  pub burst : BurstBounded s.burst
+  pub burst : IfSome s.burst BurstBounded
   pub counters : CountersBounded s.counters
 
 pub record Bounded (l : Line) : Type 0 where
@@ -63,8 +63,8 @@ pub record Bounded (l : Line) : Type 0 where
   pub serial : l.serial ≤ 4294967295
   pub state : StateBounded l.spacing l.state
 
-no-burst : BurstBounded no_burst
-no-burst = omega arith
+no-burst : IfSome no_burst BurstBounded
+no-burst = tt
 
 -- ---- commands
 tariff-bounded : (t : TariffPart) (ps : List Phase) (l : Line) → Bounded l → Bounded (tariff_changed t (scheduled ps) l)
@@ -141,16 +141,18 @@ ruled rp l (Ok tt) x =
 ruled rp l (Err r) x = x
 
 -- ---- a tick
-aged-bounded : (D : ℕ) (b : Burst) → BurstBounded b → BurstBounded (aged_of D b).burst
+aged-bounded : (D : ℕ) (b : Option Burst) → IfSome b BurstBounded → IfSome (aged_of D b).burst BurstBounded
 unfolding aged_of
-aged-bounded D b x =
+aged-bounded D None x = no-burst
+aged-bounded D (Some b) x =
     cases (completes_of D b) (λ e. rw e no-burst) (λ e. rw e (record { owed = x.owed; distance = x.distance; since = omega arith }))
 
-after-bounded : (f : Option Front) (b : Burst) → BurstBounded b → BurstBounded (burst_after f b)
+after-bounded : (f : Option Front) (b : Option Burst) → IfSome b BurstBounded → IfSome (burst_after f b) BurstBounded
 unfolding burst_after
 after-bounded None b x = x
 after-bounded (Some TariffFront) b x = x
-after-bounded (Some BurstFront) b x = record { owed = omega (arith, x.owed); distance = x.distance; since = omega arith }
+after-bounded (Some BurstFront) None x = x
+after-bounded (Some BurstFront) (Some b) x = record { owed = omega (arith, x.owed); distance = x.distance; since = omega arith }
 
 pub since-bounded : (S since : ℕ) (f : Option Front) → since ≤ S → since_front f since ≤ S
 unfolding since_front
@@ -176,7 +178,7 @@ tick-bounded l x =
     let t : Stepped = step_of l.pulse l.schedule s.tariff s.wait in
     let b : Aged = aged_of l.pulse s.burst in
     let since : ℕ = held_more l.spacing s.since in
-    let f : Option Front = front_at t.slot (is_due b.burst && (leb l.spacing since && room_of l.spacing t.tariff t.wait)) in
+    let f : Option Front = front_at t.slot (any_due b.burst && (leb l.spacing since && room_of l.spacing t.tariff t.wait)) in
     record {
       spacing = x.spacing;
       serial = x.serial;

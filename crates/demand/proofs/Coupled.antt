@@ -1,4 +1,5 @@
 -- The coupling of a line with its history: each field but the serial is the bounded form of what the history says.
+use Rattle.std.specs.Prelude.{Option, Some}
 use mathlib.Core.Path.{◌≡◌}
 use mathlib.Core.Bool.{true}
 use mathlib.Core.List.{List}
@@ -31,15 +32,15 @@ Apart S since next = (next ≡ 0 → ⊥) → S ≤ since + next
 
 module _ (D S i : ℕ) where
   -- the burst: none; it runs, with m of its pulses owed; or its last pulse has ended
-  pub data BurstAt : Started → Burst → Type 0 where
+  pub data BurstAt : Started → Option Burst → Type 0 where
     none : BurstAt idle no_burst
-    runs : {n P k m s : ℕ} {last : Last} → m + k ≡ n → s ≡ held_since (max P S) last i → Before last i → (m ≡ 0 → pulse_on D last i ≡ true) → BurstAt (started n P k last) (burst_with m (max P S) s)
+    runs : {n P k m s : ℕ} {last : Last} → m + k ≡ n → s ≡ held_since (max P S) last i → Before last i → (m ≡ 0 → pulse_on D last i ≡ true) → BurstAt (started n P k last) (Some (burst_with m (max P S) s))
     over : {n P k u : ℕ} → n ≤ k → u + D ≤ i → BurstAt (started n P k (at u)) no_burst
 
 module _ (D S clock : ℕ) where
   -- after i ticks, by what the history says then
   pub data At (i : ℕ) (last : Last) (b : Started) (r : Running) (cpc pcslr : ℕ) (rp : Option ℕ) : Line → Type 0 where
-    line_at : {v w : ℕ} {t : Tariff} {ps : List Phase} {n k : ℕ} {u : Burst} → v ≡ held_since S last i → Before last i → Agree D ps n r t w i → Good S ps n t w → BurstAt D S i b u → Apart S v (next_of t w) →
+    line_at : {v w : ℕ} {t : Tariff} {ps : List Phase} {n k : ℕ} {u : Option Burst} → v ≡ held_since S last i → Before last i → Agree D ps n r t w i → Good S ps n t w → BurstAt D S i b u → Apart S v (next_of t w) →
         At i last b r cpc pcslr rp
         (record { pulse = D; spacing = S; serial = k; state = record { wait = w; clock = (clock + i) % 2 ^ 32; since = v; tariff = t; burst = u; counters = record { cpc = cpc; pcslr = pcslr; rp = rp } }; schedule = schedule_of ps n })
 

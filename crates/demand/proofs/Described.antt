@@ -9,7 +9,7 @@ use Rattle.phase_lists.specs.Lists.{phases_of}
 use Rattle.descriptor.specs.Refusals.{ruling, ticket_causes}
 use Rattle.descriptor.specs.Rulings.{and_then}
 use Rattle.descriptor.specs.Cancelled.{cancelled_by}
-use Rattle.burst.specs.Bursts.{is_running}
+use Rattle.burst.specs.Bursts.{is_running, burst_owed}
 use Rattle.line.specs.Lines.{describe_of, read_answer, commit_of, answered_by, if_allowed, scheduled, tariff_changed, burst_changed}
 use Rattle.line.specs.declared.Line.{Line}
 use Rattle.line.specs.declared.Answered.{Answered}
@@ -27,7 +27,7 @@ change_of (descriptor t ls b) l = burst_changed b (tariff_changed t (scheduled (
 
 -- the burst pulses that it cancels
 abbrev pub cancels : Reading → Line → ℕ
-cancels d l = cancelled_by (asks (describe None d)).burst l.state.burst.owed
+cancels d l = cancelled_by (asks (describe None d)).burst (burst_owed l.state.burst)
 
 abbrev pub described_by : Ruling → Reading → Line → Answered
 described_by u d l = answered_by u l (change_of d l) (cancels d l)

@@ -1,10 +1,10 @@
 -- What a call does to a line whose burst owes a pulse, in the numbers of the bound.
 use mathlib.Core.Path.{◌≡◌, refl, sym, ap, ◌∙◌}
-use mathlib.Core.Bool.{Bool, true, false, ◌&&◌, ◌||◌, and-false}
+use mathlib.Core.Bool.{Bool, true, false, ◌&&◌, ◌||◌}
 use Prim.Native.Nat.{ℕ, suc, ◌+◌, ◌-◌, ◌*◌, ◌%◌, ◌^◌, min, ◌≤◌}
 use native.Mathlib.Omega.{arith}
 use borrow.Author.Tests.{leb-false, eqb-false, ne_eqb, lt-ltb}
-use lib.Dec.{leb, ltb, eqb}
+use lib.Dec.{leb, eqb}
 use Rattle.answers.specs.declared.Front.{Front}
 use Rattle.answers.specs.declared.Front.TheVariants.{Tariff as TariffFront, Burst as BurstFront}
 use Rattle.tariff.specs.Tariffs.{room_of, is_endless}
@@ -18,7 +18,7 @@ use Rattle.descriptor.specs.declared.TariffPart.TheVariants.{None as NoTariff, K
 use Rattle.descriptor.specs.declared.BurstPart.{BurstPart}
 use Rattle.descriptor.specs.declared.BurstPart.TheVariants.{None as NoBurst, Keep as KeepBurst, Start}
 use Rattle.descriptor.specs.declared.Hook.TheVariants.{Keep, Stop}
-use Rattle.burst.specs.Bursts.{burst_with, is_running, held_more, completes_of, aged_of, is_due}
+use Rattle.burst.specs.Bursts.{burst_with, is_running, held_more, completes_of, aged_of, any_due}
 use Rattle.burst.specs.declared.Aged.{Aged}
 use Rattle.state.specs.States.{count_by}
 use Rattle.ticking.specs.Rules.{front_at}
@@ -55,13 +55,13 @@ NoTick e = (granted e).tick ≡ false
 -- from w, v and a burst that owes m + 1 pulses at distance g, with k ticks since its last front
 pub data Effect (S w v m g k : ℕ) (e : Entry) (l : Line) : Type 0 where
   cancels : is_none (granted e).burst ≡ 1 → Effect S w v m g k e l
-  stays : NoTick e → front_of e ≡ None → l.state.since ≡ w → next_of l.state.tariff l.state.wait ≡ v → l.state.burst ≡ burst_with (suc m) g k → Effect S w v m g k e l
-  stops : NoTick e → front_of e ≡ None → l.state.since ≡ w → next_of l.state.tariff l.state.wait ≡ 0 → l.state.burst ≡ burst_with (suc m) g k → Effect S w v m g k e l
-  begins : NoTick e → front_of e ≡ None → is_fresh (granted e).tariff ≡ 1 → l.state.since ≡ w → l.state.burst ≡ burst_with (suc m) g k → Effect S w v m g k e l
-  waiting : IsTick e → front_of e ≡ None → (v ≡ 1 → ⊥) → Blocked S w g k v → l.state.since ≡ min S (w + 1) → next_of l.state.tariff l.state.wait ≡ v - 1 → l.state.burst ≡ burst_with (suc m) g (min g (k + 1)) → Effect S w v m g k e l
-  empty-due : IsTick e → front_of e ≡ None → v ≡ 1 → ((next_of l.state.tariff l.state.wait ≡ 0 → ⊥) → 2 * S ≤ next_of l.state.tariff l.state.wait) → l.state.since ≡ min S (w + 1) → l.state.burst ≡ burst_with (suc m) g (min g (k + 1)) → Effect S w v m g k e l
-  pulse-due : IsTick e → front_of e ≡ Some TariffFront → v ≡ 1 → ((next_of l.state.tariff l.state.wait ≡ 0 → ⊥) → 2 * S ≤ next_of l.state.tariff l.state.wait) → l.state.since ≡ 0 → l.state.burst ≡ burst_with (suc m) g (min g (k + 1)) → Effect S w v m g k e l
-  burst-due : IsTick e → front_of e ≡ Some BurstFront → l.state.since ≡ 0 → l.state.burst ≡ burst_with m g 0 → Effect S w v m g k e l
+  stays : NoTick e → front_of e ≡ None → l.state.since ≡ w → next_of l.state.tariff l.state.wait ≡ v → l.state.burst ≡ Some (burst_with (suc m) g k) → Effect S w v m g k e l
+  stops : NoTick e → front_of e ≡ None → l.state.since ≡ w → next_of l.state.tariff l.state.wait ≡ 0 → l.state.burst ≡ Some (burst_with (suc m) g k) → Effect S w v m g k e l
+  begins : NoTick e → front_of e ≡ None → is_fresh (granted e).tariff ≡ 1 → l.state.since ≡ w → l.state.burst ≡ Some (burst_with (suc m) g k) → Effect S w v m g k e l
+  waiting : IsTick e → front_of e ≡ None → (v ≡ 1 → ⊥) → Blocked S w g k v → l.state.since ≡ min S (w + 1) → next_of l.state.tariff l.state.wait ≡ v - 1 → l.state.burst ≡ Some (burst_with (suc m) g (min g (k + 1))) → Effect S w v m g k e l
+  empty-due : IsTick e → front_of e ≡ None → v ≡ 1 → ((next_of l.state.tariff l.state.wait ≡ 0 → ⊥) → 2 * S ≤ next_of l.state.tariff l.state.wait) → l.state.since ≡ min S (w + 1) → l.state.burst ≡ Some (burst_with (suc m) g (min g (k + 1))) → Effect S w v m g k e l
+  pulse-due : IsTick e → front_of e ≡ Some TariffFront → v ≡ 1 → ((next_of l.state.tariff l.state.wait ≡ 0 → ⊥) → 2 * S ≤ next_of l.state.tariff l.state.wait) → l.state.since ≡ 0 → l.state.burst ≡ Some (burst_with (suc m) g (min g (k + 1))) → Effect S w v m g k e l
+  burst-due : IsTick e → front_of e ≡ Some BurstFront → l.state.since ≡ 0 → l.state.burst ≡ Some (burst_with m g 0) → Effect S w v m g k e l
 
 -- ---- a tick
 -- why no burst pulse starts
@@ -79,11 +79,11 @@ blocked-by S w g k v v' true true false e p q r h = by (eqb v' 0) refl
         slot-near (omega (arith, d)) (omega arith)
 
 -- the burst owes a pulse, so it is not complete
-aged-is : (D m g k : ℕ) → aged_of D (burst_with (suc m) g k) ≡ record { burst = burst_with (suc m) g (min g (k + 1)); complete = false }
+aged-is : (D m g k : ℕ) → aged_of D (Some (burst_with (suc m) g k)) ≡ record { burst = Some (burst_with (suc m) g (min g (k + 1))); complete = false }
 unfolding aged_of completes_of
-aged-is D m g k = rw (ne_eqb (suc m) 0 (λ z. omega arith), and-false (ltb 0 g))
+aged-is D m g k = rw (ne_eqb (suc m) 0 (λ z. omega arith))
 
-module _ (l : Line) (cfg : Config l.pulse l.spacing) (good : Good l.spacing l.schedule.phases l.schedule.count l.state.tariff l.state.wait) (m g k : ℕ) (owing : l.state.burst ≡ burst_with (suc m) g k) (wide : l.spacing ≤ g) where
+module _ (l : Line) (cfg : Config l.pulse l.spacing) (good : Good l.spacing l.schedule.phases l.schedule.count l.state.tariff l.state.wait) (m g k : ℕ) (owing : l.state.burst ≡ Some (burst_with (suc m) g k)) (wide : l.spacing ≤ g) where
   abbrev pub S : ℕ
   S = l.spacing
 
@@ -98,10 +98,10 @@ module _ (l : Line) (cfg : Config l.pulse l.spacing) (good : Good l.spacing l.sc
     t' = step_of l.pulse l.schedule l.state.tariff l.state.wait
 
     abbrev u' : Aged
-    u' = record { burst = burst_with (suc m) g (min g (k + 1)); complete = false }
+    u' = record { burst = Some (burst_with (suc m) g (min g (k + 1))); complete = false }
 
     abbrev may-start : Bool
-    may-start = is_due u'.burst && (leb S (min S (l.state.since + 1)) && room_of S t'.tariff t'.wait)
+    may-start = any_due u'.burst && (leb S (min S (l.state.since + 1)) && room_of S t'.tariff t'.wait)
 
     -- a tick whose burst is x one tick on, with this front or none
     abbrev tick_with : Aged → Option Front → Ticked
@@ -122,7 +122,7 @@ module _ (l : Line) (cfg : Config l.pulse l.spacing) (good : Good l.spacing l.sc
         }
 
     abbrev front_with : Aged → Option Front
-    front_with x = front_at t'.slot (is_due x.burst && (leb S (held_more S l.state.since) && room_of S t'.tariff t'.wait))
+    front_with x = front_at t'.slot (any_due x.burst && (leb S (held_more S l.state.since) && room_of S t'.tariff t'.wait))
 
     abbrev TickEffect : Ticked → Type 0
     TickEffect x = Effect S l.state.since (next_of l.state.tariff l.state.wait) m g k (entry_for c (ticked x.tick) x.line) x.line
@@ -135,7 +135,7 @@ module _ (l : Line) (cfg : Config l.pulse l.spacing) (good : Good l.spacing l.sc
     by : (s : Option Slot) (may : Bool) → may-start ≡ may → Next S (next_of l.state.tariff l.state.wait) (next_of t'.tariff t'.wait) s → TickEffect (tick_with u' (front_at s may))
     unfolding since_front burst_after
     by None false h (waits p q) = waiting ticking refl p (blocked h q) refl q refl
-    by None true h (waits p q) = burst-due ticking refl refl (ap (λ (x : ℕ). burst_with x g 0) (omega arith))
+    by None true h (waits p q) = burst-due ticking refl refl (ap (λ (x : ℕ). Some (burst_with x g 0)) (omega arith))
     by (Some Empty) may h (empty p q) = empty-due ticking refl p q refl refl
     by (Some Pulse) may h (pulse p q) = pulse-due ticking refl p q refl refl
 
@@ -159,7 +159,7 @@ module _ (l : Line) (cfg : Config l.pulse l.spacing) (good : Good l.spacing l.sc
   changed k' (descriptor t ls (Start n P)) (Ok tt) e =
       let endless : Bool = is_endless l.state.tariff in
       let runs : Bool = is_running l.state.burst in
-      absurd (let running : runs ≡ true = rw owing (lt-ltb 0 g (omega arith)) in let idle = starts_idle S endless runs t ls n P (allowed-reading S endless runs l.serial k' (descriptor t ls (Start n P)) e) in let o : ◌≡◌ {A = ℕ} 0 1 = cc in omega arith)
+      absurd (let running : runs ≡ true = ap is_running owing in let idle = starts_idle S endless runs t ls n P (allowed-reading S endless runs l.serial k' (descriptor t ls (Start n P)) e) in let o : ◌≡◌ {A = ℕ} 0 1 = cc in omega arith)
   changed k' (descriptor NoTariff ls KeepBurst) (Ok tt) e = stops refl refl refl refl owing
   changed k' (descriptor KeepTariff ls KeepBurst) (Ok tt) e = stays refl refl refl refl owing
   changed k' (descriptor (Rate P) ls KeepBurst) (Ok tt) e = stays refl refl refl (next-rate P l.state.tariff l.state.wait) owing

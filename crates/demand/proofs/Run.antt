@@ -30,6 +30,7 @@ use Rattle.demand.proofs.Described.{described_by, describe-step, allowed-reading
 use Rattle.demand.proofs.Serials.{serial_by, serial-held, serial-after}
 use Rattle.demand.proofs.Counters.{total, counted-held, zeroed_held}
 use Rattle.demand.proofs.Coupled.{none, Config, At, line_at, with-total, serial-at, Coupled}
+use Rattle.burst.specs.Bursts.{burst_owed}
 use Rattle.demand.proofs.Bursts.{owed-is, runs-is}
 use Rattle.demand.proofs.Commands.{tariff-at, burst-at, period-at}
 use Rattle.demand.proofs.Taken.{taken}
@@ -43,7 +44,7 @@ module _ (D S clock : ℕ) (cfg : Config D S) where
     rulings_agree (line_at {w = w} {t = t} {ps = ps} {n = n} {u = u} e before a g x y) s c =
         rw (rate-runs D ps n (running D S h) t w (ticks h) a, ← runs-is D S cfg (ticks h) (burst_in h) u x, s)
 
-    owed-agrees : {l : Line} → Coupled D S clock h l → l.state.burst.owed ≡ owed h
+    owed-agrees : {l : Line} → Coupled D S clock h l → burst_owed l.state.burst ≡ owed h
     owed-agrees (line_at {u = u} e before a g x y) = owed-is D S cfg (ticks h) (burst_in h) u x
 
     counters-agree : {l : Line} → Coupled D S clock h l → counters l.state.counters.cpc l.state.counters.pcslr ≡ counters (total h) (since_report h)

@@ -1,5 +1,6 @@
 -- A tick keeps the coupling, and tells what the paper has it tell.
 use Rattle.std.specs.Prelude.{Option, None, Some}
+use Rattle.std.specs.Option.{option_map}
 use mathlib.Core.Path.{◌≡◌, refl, sym, ap, ◌∙◌}
 use mathlib.Core.Bool.{Bool, true, false, cond, ◌&&◌, ◌||◌, and-eq-true_iff}
 use mathlib.Core.List.{List}
@@ -17,7 +18,7 @@ use Rattle.tariff.specs.declared.Slot.{Slot}
 use Rattle.tariff.specs.declared.Slot.TheVariants.{Empty, Pulse}
 use Rattle.steps.specs.declared.Stepped.{Stepped}
 use Rattle.slots.specs.Slots.{Running, nothing, slot_at, completes_at, quiet_for}
-use Rattle.burst.specs.Bursts.{held_more, aged_of, is_due, begun_of}
+use Rattle.burst.specs.Bursts.{held_more, aged_of, any_due, begun_of}
 use Rattle.burst.specs.declared.Burst.{Burst}
 use Rattle.burst.specs.declared.Aged.{Aged}
 use Rattle.state.specs.Rules.{one_more, report_due}
@@ -68,7 +69,7 @@ module _ (D S clock : ℕ) (cfg : Config D S) where
   After i last b r cpc pcslr rp k l =
       At D S clock (i + 1) (if_front k.front (at (i + 1)) last) (if_burst k.front (one_begun (i + 1) b) b) (cond (completes_at D r (i + 1)) nothing r) (counter_after k.front cpc) (cond k.report 0 (counter_after k.front pcslr)) rp l
 
-  module _ (i : ℕ) (last : Last) (b : Started) (r : Running) (cpc pcslr : ℕ) (rp : Option ℕ) (t : Tariff) (w : ℕ) (ps : List Phase) (n k : ℕ) (u : Burst)
+  module _ (i : ℕ) (last : Last) (b : Started) (r : Running) (cpc pcslr : ℕ) (rp : Option ℕ) (t : Tariff) (w : ℕ) (ps : List Phase) (n k : ℕ) (u : Option Burst)
       (v : ℕ) (held : v ≡ held_since S last i) (before : Before last i) (a : Agree D ps n r t w i) (g : Good S ps n t w) (x : BurstAt D S i b u) (y : Apart S v (next_of t w)) where
     some : 1 ≤ S
     some = omega arith
@@ -92,7 +93,7 @@ module _ (D S clock : ℕ) (cfg : Config D S) where
     clock-more = omega arith
 
     abbrev may-start : Bool
-    may-start = is_due u'.burst && (leb S now && room_of S t'.tariff t'.wait)
+    may-start = any_due u'.burst && (leb S now && room_of S t'.tariff t'.wait)
 
     ready-is : may-start ≡ (burst_ready S b (i + 1) && (passed S last (i + 1) && room_of S t'.tariff t'.wait))
     ready-is = burst-ready D S cfg (i + 1) b u'.burst (burst-aged D S cfg i b u x).1 last (before_more last i before) now now-is (room_of S t'.tariff t'.wait)
@@ -139,7 +140,7 @@ module _ (D S clock : ℕ) (cfg : Config D S) where
     by None true (waits p q) h z =
         rw (← agree-complete S D ps n some fits r t w i g a, ← (burst-aged D S cfg i b u x).0, clock-more, count-is cpc pcslr rp) (
           refl,
-          line_at {v = 0} {w = t'.wait} {t = t'.tariff} {ps = ps} {n = n} {u = begun_of u'.burst} (omega arith) (omega arith) (agree-tick S D ps n some fits r t w i g a) (good-step S D ps n some fits t w g)
+          line_at {v = 0} {w = t'.wait} {t = t'.tariff} {ps = ps} {n = n} {u = option_map begun_of u'.burst} (omega arith) (omega arith) (agree-tick S D ps n some fits r t w i g a) (good-step S D ps n some fits t w g)
               (burst-begun D S cfg (i + 1) b u'.burst (burst-aged D S cfg i b u x).1 (h refl)) (λ e. let l = z refl e in omega arith),
         )
     by (Some Empty) may (empty p q) h z =

@@ -13,7 +13,7 @@ pub fn tick_in_place(line: &mut Line) -> Tick
     ensures moved { line.new ≡ (tick_of line.old).line }
 {
     if line.state.is_quiet(line.pulse, line.spacing) {
-        line.state = line.state.waited(line.spacing);
+        line.state.tick_quietly(line.spacing);
         return Tick::default();
     }
     let moved = line.moved();

@@ -16,7 +16,7 @@ use Rattle.descriptor.specs.declared.Refusal.{Refusal}
 use Rattle.descriptor.specs.declared.TariffPart.{TariffPart}
 use Rattle.descriptor.specs.declared.TariffPart.TheVariants.{None as NoTariff, Keep as KeepTariff, Rate, Em, Phased}
 use Rattle.descriptor.specs.declared.BurstPart.{BurstPart}
-use Rattle.burst.specs.Bursts.{is_running}
+use Rattle.burst.specs.Bursts.{is_running, burst_owed}
 use Rattle.descriptor.specs.Cancelled.{cancelled_by}
 use Rattle.line.specs.Lines.{scheduled, tariff_changed, refusing, answered_by, described_by, describe_of, read_answer, describe_text_of}
 use Rattle.line.specs.declared.Answered.{Answered}
@@ -54,7 +54,7 @@ describe-is l t ls p =
     let e : Bool = is_endless l.state.tariff in
     let b : Bool = is_running l.state.burst in
     rw (descriptor-ruling-is S e b t ls p)
-    (same_answer (ruling (descriptor_causes S e b t ls p)) l (cancelled_by p l.state.burst.owed)
+    (same_answer (ruling (descriptor_causes S e b t ls p)) l (cancelled_by p (burst_owed l.state.burst))
     (λ h. rw (tariff-changed-is S e b t ls l (none_after (tariff_causes S e b t ls) (burst_causes S e b p) h).0)))
 
 -- nine values of each list are enough

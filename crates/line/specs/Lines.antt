@@ -23,7 +23,7 @@ use Rattle.descriptor.specs.declared.Descriptor.TheVariants.{Parts, Text}
 use Rattle.descriptor.specs.declared.Hook.{Hook}
 use Rattle.descriptor.specs.declared.Hook.TheVariants.{Keep, Stop}
 use Rattle.grammar.specs.Meaning.{Reading, unreadable, senseless, descriptor, reading_of}
-use Rattle.burst.specs.Bursts.{no_burst, start_of, is_running}
+use Rattle.burst.specs.Bursts.{no_burst, start_of, is_running, burst_owed}
 use Rattle.state.specs.Rules.{one_more}
 use Rattle.state.specs.States.{zero_counters, with_tariff, with_burst, with_counters, stopped, with_rate}
 use Rattle.state.specs.States.{origin_wait, is_on}
@@ -142,14 +142,14 @@ tariff_changed Phased ps l = with_schedule l ps
 unfoldable pub burst_changed : BurstPart → Line → Line
 burst_changed NoBurst l = with_state l (with_burst l.state no_burst)
 burst_changed KeepBurst l = l
-burst_changed (Start n P) l = with_state l (with_burst l.state (start_of n (max P l.spacing)))
+burst_changed (Start n P) l = with_state l (with_burst l.state (Some (start_of n (max P l.spacing))))
 
 unfoldable pub describe_of : Line → TariffPart → Lists → BurstPart → Answered
 describe_of l t ls b =
     let s = l.state in
     answered_by (ruling (descriptor_causes l.spacing (is_endless s.tariff) (is_running s.burst) t ls b)) l
     (burst_changed b (tariff_changed t (scheduled (phases_of ls)) l))
-    (cancelled_by b s.burst.owed)
+    (cancelled_by b (burst_owed s.burst))
 
 -- the same with the phases in a table, as the code has them
 abbrev pub described_by : Line → TariffPart → PhaseTable → BurstPart → Answered
@@ -157,7 +157,7 @@ described_by l t table b =
     let s = l.state in
     answered_by (descriptor_ruling l.spacing (is_endless s.tariff) (is_running s.burst) t table b) l
     (burst_changed b (tariff_changed t (schedule_of table.phases table.carry.count) l))
-    (cancelled_by b s.burst.owed)
+    (cancelled_by b (burst_owed s.burst))
 
 -- as a text: refused where it does not read, and then where it makes no sense; else as the descriptor that it reads as
 abbrev pub read_answer : Line → Reading → Answered
@@ -175,7 +175,7 @@ meant_by (Text text) = reading_of text.now
 
 unfoldable pub hook_of : Line → Hook → Answered
 hook_of l Keep = accepting l 0
-hook_of l Stop = accepting (with_state l (with_burst (stopped l.state) no_burst)) l.state.burst.owed
+hook_of l Stop = accepting (with_state l (with_burst (stopped l.state) no_burst)) (burst_owed l.state.burst)
 
 -- ---- asking and committing
 

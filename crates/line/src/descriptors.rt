@@ -68,11 +68,12 @@ impl Line {
         ensures { result ≡ burst_changed part self }
     {
         match part {
-            BurstPart::None => self.with_state(self.state.with_burst(Burst::none())),
+            BurstPart::None => self.with_state(self.state.with_burst(None)),
             BurstPart::Keep => self,
             BurstPart::Start { pulses, interval } => {
                 let distance = interval.max(self.spacing);
-                self.with_state(self.state.with_burst(Burst::start(pulses, distance)))
+                let started = Some(Burst::start(pulses, distance));
+                self.with_state(self.state.with_burst(started))
             }
         }
     }
@@ -82,7 +83,7 @@ impl Line {
         ensures { result ≡ descriptor_ruling self.spacing (is_endless self.state.tariff) (is_running self.state.burst) tariff table burst }
     {
         let endless = self.state.tariff.is_endless();
-        let running = self.state.burst.is_running();
+        let running = burst::is_running(self.state.burst);
         descriptor::ruling_on(self.spacing, endless, running, tariff, table, burst)
     }
 
@@ -98,7 +99,7 @@ impl Line {
         match self.ruling(tariff, table, burst) {
             Err(refusal) => self.refusing(refusal),
             Ok(()) => {
-                let cancelled = descriptor::cancelled_by(burst, self.state.burst.owed);
+                let cancelled = descriptor::cancelled_by(burst, burst::owed(self.state.burst));
                 let changed = self.with_tariff_part(tariff, table).with_burst_part(burst);
                 changed.accepting(cancelled)
             }

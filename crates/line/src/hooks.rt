@@ -3,7 +3,6 @@ ghost use Rattle.std.specs.Prelude.{◌≡◌};
 ghost use Rattle.line.specs.Lines.{hook_of};
 
 use super::{Answered, Line};
-use burst::Burst;
 use descriptor::Hook;
 
 impl Line {
@@ -15,8 +14,9 @@ impl Line {
         match event {
             Hook::Keep => self.accepting(0),
             Hook::Stop => {
-                let stopped = self.state.stopped().with_burst(Burst::none());
-                self.with_state(stopped).accepting(self.state.burst.owed)
+                let stopped = self.state.stopped().with_burst(None);
+                self.with_state(stopped)
+                    .accepting(burst::owed(self.state.burst))
             }
         }
     }

@@ -3,7 +3,6 @@ ghost use Rattle.std.specs.Prelude.{◌≡◌};
 ghost use Rattle.line.specs.Lines.{idle_line, fresh_line, blank_line, make_of};
 
 use super::{Answered, Line};
-use burst::Burst;
 use descriptor::Refusal;
 use state::{Counters, State};
 use tariff::{Schedule, Tariff};
@@ -22,7 +21,7 @@ impl Line {
                 clock,
                 since,
                 tariff: Tariff::Idle,
-                burst: Burst::none(),
+                burst: None,
                 counters: Counters::default(),
             },
             schedule: Schedule::default(),

@@ -37,7 +37,7 @@ fn quiet(mut state: State, pulse: u32, spacing: u32, n: u32) -> (State, u32) {
         if !state.is_quiet(pulse, spacing) {
             return (state, n - done);
         }
-        state = state.waited(spacing);
+        state.tick_quietly(spacing);
     }
     (state, 0)
 }

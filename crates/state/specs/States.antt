@@ -1,6 +1,7 @@
 -- What the code makes of the state of a line: its parts, its counters, and a tick at which nothing happens.
 use Rattle.std.specs.Prelude.{ℕ, ◌+◌, ◌-◌, ◌%◌, ◌^◌, max, Bool, true, false, cond, not, ◌&&◌, ◌||◌, nat_le, nat_lt}
 use Rattle.std.specs.Prelude.{Option}
+use Rattle.std.specs.Option.{option_map}
 use Rattle.answers.specs.Fronts.{if_front}
 use Rattle.answers.specs.declared.Front.{Front}
 use Rattle.tariff.specs.Tariffs.{rate_of, is_idle}
@@ -20,7 +21,7 @@ abbrev pub with_tariff : State → ℕ → Tariff → Counters → State
 with_tariff s w t n =
     record { wait = w; clock = s.clock; since = s.since; tariff = t; burst = s.burst; counters = n }
 
-abbrev pub with_burst : State → Burst → State
+abbrev pub with_burst : State → Option Burst → State
 with_burst s b =
     record { wait = s.wait; clock = s.clock; since = s.since; tariff = s.tariff; burst = b; counters = s.counters }
 
@@ -76,6 +77,6 @@ waited_of S s =
       clock = (s.clock + 1) % 2 ^ 32;
       since = held_more S s.since;
       tariff = s.tariff;
-      burst = older_of s.burst;
+      burst = option_map older_of s.burst;
       counters = s.counters;
     }

@@ -32,7 +32,7 @@ pub struct State {
     pub clock: u32,
     pub since: u32,
     pub tariff: Tariff,
-    pub burst: Burst,
+    pub burst: Option<Burst>,
     pub counters: Counters,
 }
 

@@ -19,7 +19,7 @@ impl State {
         }
     }
 
-    pub fn with_burst(self, burst: Burst) -> State
+    pub fn with_burst(self, burst: Option<Burst>) -> State
         ensures { result ≡ with_burst self burst }
     {
         State { burst, ..self }

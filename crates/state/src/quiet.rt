@@ -13,20 +13,19 @@ impl State {
         let since = burst::held_more(spacing, self.since);
         let waits = 1 < self.wait || self.tariff.is_idle();
         let ends = self.since < pulse && pulse <= since;
-        waits && !ends && self.burst.is_quiet(pulse, spacing <= since)
+        waits && !ends && burst::is_quiet(self.burst, pulse, spacing <= since)
     }
 
-    // After a quiet tick.
+    // A quiet tick.
     #[tactic(auto, unfolding(crate::specs::States::waited_of))]
-    pub fn waited(self, spacing: u32) -> State
-        ensures { result ≡ waited_of spacing self }
+    pub fn tick_quietly(&mut self, spacing: u32)
+        ensures { self.new ≡ waited_of spacing self.old }
     {
-        State {
-            wait: self.wait.saturating_sub(1),
-            clock: self.clock.wrapping_add(1),
-            since: burst::held_more(spacing, self.since),
-            burst: self.burst.older(),
-            ..self
+        self.wait = self.wait.saturating_sub(1);
+        self.clock = self.clock.wrapping_add(1);
+        self.since = burst::held_more(spacing, self.since);
+        if let Some(burst) = &mut self.burst {
+            *burst = burst.older();
         }
     }
 }

@@ -1,12 +1,13 @@
 -- One tick of a line: what the code computes.
 use Rattle.std.specs.Prelude.{ℕ, ◌+◌, ◌%◌, ◌^◌, Bool, true, not, ◌&&◌, ◌||◌, nat_le, Option, None, Some}
+use Rattle.std.specs.Option.{option_map}
 use Rattle.answers.specs.Fronts.{if_front, if_burst}
 use Rattle.answers.specs.declared.Front.{Front}
 use Rattle.tariff.specs.Tariffs.{room_of}
 use Rattle.tariff.specs.declared.Schedule.{Schedule}
 use Rattle.tariff.specs.declared.Slot.{Slot}
 use Rattle.steps.specs.Steps.{step_of}
-use Rattle.burst.specs.Bursts.{held_more, aged_of, is_due, begun_of}
+use Rattle.burst.specs.Bursts.{held_more, aged_of, any_due, begun_of}
 use Rattle.burst.specs.declared.Burst.{Burst}
 use Rattle.state.specs.States.{count_by, is_on}
 use Rattle.state.specs.declared.State.{State}
@@ -17,8 +18,8 @@ use Rattle.ticking.specs.Rules.{front_at}
 unfoldable pub since_front : Option Front → ℕ → ℕ
 since_front f since = if_front f 0 since
 
-unfoldable pub burst_after : Option Front → Burst → Burst
-burst_after f b = if_burst f (begun_of b) b
+unfoldable pub burst_after : Option Front → Option Burst → Option Burst
+burst_after f b = if_burst f (option_map begun_of b) b
 
 -- something happened: a slot, an empty one too, a front, a completion, or the end of a pulse
 unfoldable pub happens : Option Slot → Option Front → Bool → Bool → Bool
@@ -30,7 +31,7 @@ moved_by D S ps s =
     let t = step_of D ps s.tariff s.wait in
     let b = aged_of D s.burst in
     let since = held_more S s.since in
-    let may = is_due b.burst && (nat_le S since && room_of S t.tariff t.wait) in
+    let may = any_due b.burst && (nat_le S since && room_of S t.tariff t.wait) in
     let f = front_at t.slot may in
     let c = count_by f s.counters in
     record {

@@ -32,11 +32,11 @@ fn since_front(front: Option<Front>, since: u32) -> u32
 
 // The burst after this front or none.
 #[tactic(auto, unfolding(crate::specs::Moves::burst_after))]
-fn burst_after(front: Option<Front>, burst: Burst) -> Burst
+fn burst_after(front: Option<Front>, burst: Option<Burst>) -> Option<Burst>
     ensures { result ≡ burst_after front burst }
 {
     if front == Some(Front::Burst) {
-        burst.begun()
+        burst.map(Burst::begun)
     } else {
         burst
     }
@@ -65,8 +65,8 @@ pub fn moved(pulse: u32, spacing: u32, schedule: Schedule, state: State) -> Move
 {
     let since = burst::held_more(spacing, state.since);
     let t = steps::step(state.tariff, state.wait, pulse, schedule);
-    let b = state.burst.aged(pulse);
-    let may = b.burst.is_due() && spacing <= since && t.tariff.room(t.wait, spacing);
+    let b = burst::age(state.burst, pulse);
+    let may = burst::is_due(b.burst) && spacing <= since && t.tariff.room(t.wait, spacing);
     let front = front_at(t.slot, may);
     let n = state.counters.counted_by(front);
     Moved {

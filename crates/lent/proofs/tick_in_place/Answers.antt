@@ -19,7 +19,7 @@ returns-then-is_quiet-clause-told c =
 pub returns-then-is_quiet-clause-moved : goal.returns-then-is_quiet-clause-moved
 unfolding tick_of
 returns-then-is_quiet-clause-moved c =
-    rw (quiet-move c.args.line.now (sym c.is_quiet.ensures ∙ c.if-is_quiet.true), c.waited-line.ensures) refl
+    rw (quiet-move c.args.line.now (sym c.is_quiet.ensures ∙ c.if-is_quiet.true), c.tick_quietly.ensures) refl
 
 pub returns-clause-told : goal.returns-clause-told
 unfolding tick_of
