@@ -12,8 +12,8 @@ use Rattle.demand.specs.Demand.{Demand3}
 use Rattle.demand.specs.Tickets.{Tickets}
 use Rattle.card_demand.specs.Card.{CardCall, tick_row, group, CardReply, done, sends, refuses, CardEntry}
 use Rattle.card_demand.specs.Card.{rate, Making, card_past, card_history}
-use Rattle.card_demand.specs.Reading.{line_calls, line_history, row_ticks, row_in, row_length, next_in, reported, fallen}
-use Rattle.card_demand.specs.Reading.{sent_reports, left, due}
+use Rattle.card_demand.specs.Reading.{line_calls, line_history, row_ticks, row_in, row_length, next_in, reported}
+use Rattle.card_demand.specs.Reading.{fallen, sent_reports, left, due}
 
 -- stands where the card has no line
 abbrev pub no_making : Making
