@@ -6,6 +6,7 @@ use super::Answer;
 use super::text::{Text, pair};
 
 // The line of an answer.
+#[inline(never)]
 pub fn answer_text(answer: Answer) -> Text
     ensures { result ≡ answer_text answer }
 {
@@ -19,6 +20,7 @@ pub fn answer_text(answer: Answer) -> Text
 }
 
 // The line that answers an ask: an answer with a ticket.
+#[inline(never)]
 pub fn asked_text(answer: Answer, ticket: u32) -> Text
     ensures { result ≡ asked_text answer ticket }
 {

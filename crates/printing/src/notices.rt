@@ -5,19 +5,21 @@ ghost use Rattle.printing.specs.Text.{notice_text, counters_text};
 use super::text::{Text, pair};
 
 // The line of a notice.
+#[inline(never)]
 pub fn notice_text(tick: u32, place: u32, tariff: bool, burst: bool, reports: u32) -> Text
     ensures { result ≡ notice_text tick place tariff burst reports }
 {
     let mut text = Text::new();
     text.put_around(b"n ", tick, b" ");
-    text.put_around(b"", place, b" ");
-    text.put_around(b"", u32::from(tariff), b" ");
-    text.put_around(b"", u32::from(burst), b" ");
-    text.put_around(b"", reports, b"\n");
+    text.put_number(place, b" ");
+    text.put_number(u32::from(tariff), b" ");
+    text.put_number(u32::from(burst), b" ");
+    text.put_number(reports, b"\n");
     text
 }
 
 // The line of the counters.
+#[inline(never)]
 pub fn counters_text(cpc: u32, pcslr: u32) -> Text
     ensures { result ≡ counters_text cpc pcslr }
 {

@@ -39,13 +39,20 @@ impl Text {
         let _all = self.bytes.write(bytes);
     }
 
+    // Puts a number and a text after it at the end.
+    pub(crate) fn put_number(&mut self, n: u32, tail: &[u8])
+        ensures { self.new ≡ extended self.old (digits_of n ++ tail.now) }
+    {
+        self.put(Buffer::new().format(n).as_bytes());
+        self.put(tail);
+    }
+
     // Puts a number between two texts at the end.
     pub(crate) fn put_around(&mut self, head: &[u8], n: u32, tail: &[u8])
         ensures { self.new ≡ extended self.old (head.now ++ digits_of n ++ tail.now) }
     {
         self.put(head);
-        self.put(Buffer::new().format(n).as_bytes());
-        self.put(tail);
+        self.put_number(n, tail);
     }
 
     // The bytes of the text.
@@ -62,6 +69,6 @@ pub(crate) fn pair(head: &[u8], a: u32, b: u32) -> Text
 {
     let mut text = Text::new();
     text.put_around(head, a, b" ");
-    text.put_around(b"", b, b"\n");
+    text.put_number(b, b"\n");
     text
 }

@@ -21,7 +21,7 @@ fn put_letter(text: &mut Text, clock: u32, letter: &[u8], cpc: u32)
     ensures { text.new ≡ extended text.old (bytes "f " ++ digits_of clock ++ letter.now ++ digits_of cpc ++ bytes "\n") }
 {
     text.put_around(b"f ", clock, letter);
-    text.put_around(b"", cpc, b"\n");
+    text.put_number(cpc, b"\n");
 }
 
 // Puts the line of a front, if there is one.

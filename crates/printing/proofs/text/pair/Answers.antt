@@ -3,4 +3,4 @@ use Rattle.printing.proofs.RoomLaws.{then_number}
 use Rattle.printing.proofs.text.pair.Goals as goal
 
 pub returns : goal.returns
-returns c = rw c.new-text.ensures at (then_number _ _ c.args.b (bytes "\n") c.put_around.ensures c.put_around-2.ensures)
+returns c = rw c.new-text.ensures at (then_number _ _ c.args.b (bytes "\n") c.put_around.ensures c.put_number.ensures)

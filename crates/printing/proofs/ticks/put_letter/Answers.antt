@@ -3,4 +3,4 @@ use Rattle.printing.proofs.RoomLaws.{then_number}
 use Rattle.printing.proofs.ticks.put_letter.Goals as goal
 
 pub returns : goal.returns
-returns c = then_number _ _ c.args.cpc (bytes "\n") c.put_around.ensures c.put_around-2.ensures
+returns c = then_number _ _ c.args.cpc (bytes "\n") c.put_around.ensures c.put_number.ensures

@@ -1,14 +1,5 @@
-use Rattle.std.proofs.Common.{◌≡◌, arith, ◌^◌, ◌<◌}
-use Rattle.printing.specs.Text.{digits_of}
-use Rattle.printing.specs.Room.{extended}
-use Rattle.printing.proofs.DigitLaws.{digits_decimal}
-use Rattle.printing.proofs.RoomLaws.{then}
+use Rattle.printing.proofs.RoomLaws.{then_number}
 use Rattle.printing.proofs.text.Text.put_around.Goals as goal
 
 pub returns : goal.returns
-returns c =
-    let small : c.args.n < 2 ^ 32 = omega arith in
-    let number : c.put-2.new.self ≡ extended c.put.new.self (digits_of c.args.n) =
-    rw (digits_decimal c.args.n small, ← c.format.ensures.text, ← c.as_bytes.ensures.value) c.put-2.ensures
-    in
-    then _ _ _ (then _ _ _ c.put.ensures number) c.put-3.ensures
+returns c = then_number _ _ c.args.n c.args.tail.now c.put.ensures c.put_number.ensures
