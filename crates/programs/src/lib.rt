@@ -27,7 +27,7 @@ pub trait Program<W: Write> {
 
     // At the end of the input, all output is written.
     fn close(&self, out: &mut Outlet<W>) -> io::Result<()>
-        ensures { OnOk result (out.new.held ≡ 0) }
+        ensures { OnOk result (out.new.held.items ≡ []) }
     {
         out.flush()
     }
@@ -58,7 +58,7 @@ pub fn serve<W: Write, P: Program<W>>(
     inp: &mut [u8],
     out: &mut Outlet<W>,
 ) -> io::Result<()>
-    ensures sent { OnOk result (out.new.held ≡ 0) }
+    ensures sent { OnOk result (out.new.held.items ≡ []) }
     ensures served { OnOk result (Serves P.reads inp.old program.old program.new) }
 {
     let mut input = Input::new();

@@ -1,2 +1,0 @@
--- The laws of what is written out and held back.
-pub mod KnownLaws
