@@ -4,7 +4,7 @@ ghost use Rattle.printing.specs.Text.{notice_text, counters_text};
 
 use super::text::{Text, pair};
 
-// The line of a notice.
+// The line of a notice. Not inlined, as `answer_text` is not.
 #[inline(never)]
 pub fn notice_text(tick: u32, place: u32, tariff: bool, burst: bool, reports: u32) -> Text
     ensures { result ≡ notice_text tick place tariff burst reports }
@@ -19,7 +19,6 @@ pub fn notice_text(tick: u32, place: u32, tariff: bool, burst: bool, reports: u3
 }
 
 // The line of the counters.
-#[inline(never)]
 pub fn counters_text(cpc: u32, pcslr: u32) -> Text
     ensures { result ≡ counters_text cpc pcslr }
 {
