@@ -1,6 +1,5 @@
 // A card: its row of lines, what each of them answers, and what is printed of it.
 use super::pending::Pending;
-use arrayvec::ArrayVec;
 use descriptor::Descriptor;
 use dispatcher::Dispatcher;
 use line::{Answered, Asked, Line};
@@ -10,10 +9,13 @@ use script::Giving;
 use std::io;
 use std::io::{Stdout, Write};
 
-// A card: its lines, the number of ticks so far, held at the largest number, the dispatcher, and the descriptor that
-// waits for phase lines, if one does. There is room for one line more than a dispatcher takes.
+// A card: room for its lines, how many there are, the number of ticks so far, held at the largest number, the
+// dispatcher, and the descriptor that waits for phase lines, if one does.
+// Stays: fixed memory. An ArrayVec was tried, and is emptied only where its items have a default, which no line is.
+#[derive(Clone, Copy)]
 pub struct Card {
-    pub lines: ArrayVec<Line, 65>,
+    pub lines: [Line; 65],
+    pub count: usize,
     pub ticks: u32,
     pub dispatcher: Dispatcher,
     pub pending: Option<Pending>,
@@ -26,12 +28,10 @@ pub(crate) fn put_answer(out: &mut Outlet<Stdout>, answer: Answer) -> io::Result
 }
 
 impl Card {
-    // With no line yet. No line is the default of all, so that the room is filled with one, and emptied.
     pub(crate) fn new() -> Card {
-        let mut lines = ArrayVec::from([Line::make(0, 0, 0).line; 65]);
-        lines.clear();
         Card {
-            lines,
+            lines: [Line::make(0, 0, 0).line; 65],
+            count: 0,
             ticks: 0,
             dispatcher: Dispatcher::new(),
             pending: None,
@@ -40,7 +40,8 @@ impl Card {
 
     // The line at a place of the row, if there is one.
     pub(crate) fn line_at(&self, place: u32) -> Option<Line> {
-        self.lines.get(place as usize).copied()
+        let row = &self.lines[..self.count.min(65)];
+        row.get(place as usize).copied()
     }
 
     // One more line at the end of the row, if there is room. A refused configuration adds none.
@@ -51,12 +52,13 @@ impl Card {
         clock: u32,
         out: &mut Outlet<Stdout>,
     ) -> io::Result<()> {
-        if self.lines.is_full() {
+        if self.count >= 65 {
             return put_answer(out, Answer::Bad);
         }
         let made = Line::make(pulse, gap, clock);
         if made.verdict.is_ok() {
-            self.lines.push(made.line);
+            self.lines[self.count] = made.line;
+            self.count += 1;
         }
         put_answer(out, Answer::from(made.verdict))
     }
@@ -68,8 +70,9 @@ impl Card {
         answer: Answered,
         out: &mut Outlet<Stdout>,
     ) -> io::Result<()> {
-        if let Some(line) = self.lines.get_mut(place as usize) {
-            *line = answer.line;
+        let i = place as usize;
+        if i < self.lines.len() {
+            self.lines[i] = answer.line;
         }
         put_answer(out, Answer::from(answer.verdict))
     }

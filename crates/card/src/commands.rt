@@ -1,5 +1,6 @@
 // What each line of a script does to the card.
 use super::cards::{Card, put_answer};
+use super::groups;
 use super::pending::Pending;
 use descriptor::Descriptor;
 use line::{Audited, Line};
@@ -62,7 +63,7 @@ impl Card {
             CardCommand::Configure { pulse, gap, clock } => self.configure(pulse, gap, clock, out),
             CardCommand::Tick(n) => self.run(n, out),
             CardCommand::Group { interval } => {
-                let verdict = group::rate(&mut self.lines, script::read_places(text).as_slice(), interval);
+                let verdict = groups::rate(&mut self.lines, self.count, text, interval);
                 put_answer(out, Answer::from(verdict))
             }
             CardCommand::On {

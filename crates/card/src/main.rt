@@ -4,6 +4,7 @@
 
 mod cards;
 mod commands;
+mod groups;
 mod pending;
 mod ticks;
 
