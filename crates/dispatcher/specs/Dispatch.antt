@@ -1,5 +1,5 @@
 -- The dispatcher: what waits to be told of each line, whose turn it is, and what one tick of a card sends.
-use Rattle.std.specs.Prelude.{Bool, false, not, if◌then◌else◌, ◌&&◌, ◌||◌, List, [], ◌∷◌, map, ℕ, zero, suc, ◌+◌, ◌-◌}
+use Rattle.std.specs.Prelude.{Bool, false, not, if◌then◌else◌, ◌||◌, List, [], ◌∷◌, map, ℕ, zero, suc, ◌+◌, ◌-◌}
 use Rattle.std.specs.Prelude.{min, nat_lt, ◌==◌, length, get_or, set, replicate, Option, Some, None, option_map}
 use Rattle.std.specs.Prelude.{Result, Ok, Err}
 use Rattle.std.specs.Option.{option_or}

@@ -1,5 +1,5 @@
 -- On a quiet line a tick only moves time on.
-use Rattle.std.proofs.Common.{◌≡◌, ℕ, ◌-◌, ◌≤◌, Bool, true, false, not, ◌&&◌, ◌||◌, ltb, leb, Option, None, Some, refl, sym, ◌∙◌, ap, arith, ltb-false}
+use Rattle.std.proofs.Common.{◌≡◌, ℕ, ◌-◌, ◌≤◌, Bool, true, false, not, ◌&&◌, ◌||◌, ltb, leb, Option, None, Some, refl, ap, arith, ltb-false}
 use mathlib.Core.Bool.{and-eq-true_iff, false≢true}
 use borrow.Author.Tests.{not-true}
 use borrow.Table.Steps.{cases}
@@ -13,7 +13,6 @@ use Rattle.tariff.specs.declared.Tariff.TheVariants.{Idle, Endless, Counted, Pha
 use Rattle.burst.specs.Bursts.{held_more, older_of, completes_of, aged_of, any_due, burst_quiet}
 use Rattle.burst.specs.declared.Burst.{Burst}
 use Rattle.state.specs.States.{is_on, count_by, quiet_of, waited_of}
-use Rattle.state.specs.declared.Moved.{Moved}
 use Rattle.state.specs.declared.State.{State}
 use Rattle.ticking.specs.Moves.{since_front, burst_after, happens, moved_by}
 
