@@ -12,7 +12,7 @@ use std::io::Stdout;
 // A card: room for its lines, how many there are, the number of ticks so far, held at the largest number, the
 // dispatcher, and the descriptor that waits for phase lines, if one does.
 // Stays: fixed memory, so that the lines are an array with a number beside it.
-#[derive(Clone, Copy)]
+#[derive(Drop)]
 pub struct Card {
     pub lines: [Line; 65],
     pub count: usize,
