@@ -12,7 +12,7 @@ use std::io::{Stdout, Write};
 // A card: room for its lines, how many there are, the number of ticks so far, held at the largest number, the
 // dispatcher, and the descriptor that waits for phase lines, if one does.
 // Stays: fixed memory. An ArrayVec was tried, and is emptied only where its items have a default, which no line is.
-#[derive(Clone, Copy)]
+#[derive(Drop)]
 pub struct Card {
     pub lines: [Line; 65],
     pub count: usize,

@@ -91,16 +91,15 @@ impl Card {
 
     // Obeys a descriptor that waits, once its phase lines have come.
     fn gather(&mut self, pending: Pending, out: &mut Outlet<Stdout>) -> io::Result<()> {
+        if pending.waiting.missing > 0 {
+            self.pending = Some(pending);
+            return Ok(());
+        }
         let Pending {
             place,
             giving,
             waiting,
         } = pending;
-        if waiting.missing > 0 {
-            self.pending = Some(pending);
-            return Ok(());
-        }
-        self.pending = None;
         match (self.line_at(place), waiting.descriptor()) {
             (Some(line), Some(given)) => self.give(place, line, giving, given, out),
             _ => put_answer(out, Answer::Bad),
@@ -111,7 +110,7 @@ impl Card {
 impl Program<Stdout> for Card {
     // Reads a line of the script and obeys it: a command, or a phase line that a descriptor waits for.
     fn read(&mut self, text: &[u8], out: &mut Outlet<Stdout>) -> io::Result<()> {
-        if let Some(mut pending) = self.pending {
+        if let Some(mut pending) = self.pending.take() {
             pending.waiting = pending.waiting.with(script::read_phase(text));
             return self.gather(pending, out);
         }

@@ -3,7 +3,7 @@ use phase_lines::Waiting;
 use script::Giving;
 
 // The place of the line, how the descriptor is given to it, and the descriptor that waits.
-#[derive(Clone, Copy)]
+#[derive(Drop)]
 pub struct Pending {
     pub place: u32,
     pub giving: Giving,

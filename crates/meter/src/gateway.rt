@@ -11,7 +11,7 @@ use std::io;
 use std::io::{Stdout, Write};
 
 // A gateway: its line, once a configuration was accepted, and the descriptor that waits for phase lines, if one does.
-#[derive(Clone, Copy)]
+#[derive(Drop)]
 pub struct Gateway {
     pub line: Option<Line>,
     pub waiting: Option<Waiting>,
@@ -137,7 +137,6 @@ impl Gateway {
             self.waiting = Some(waiting);
             return Ok(());
         }
-        self.waiting = None;
         match (self.line, waiting.descriptor()) {
             (Some(line), Some(given)) => self.answered(line.describe(given), out),
             _ => put_answer(out, Answer::Bad),
@@ -148,7 +147,7 @@ impl Gateway {
 impl Program<Stdout> for Gateway {
     // Reads a line of the script and obeys it: a command, or a phase line that a descriptor waits for.
     fn read(&mut self, text: &[u8], out: &mut Outlet<Stdout>) -> io::Result<()> {
-        match self.waiting {
+        match self.waiting.take() {
             Some(waiting) => self.gather(waiting.with(script::read_phase(text)), out),
             None => self.obey(script::read_command(text), out),
         }

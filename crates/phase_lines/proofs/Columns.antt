@@ -1,136 +1,126 @@
 -- The phases that the lines say are the phases of the seven lists.
-use Rattle.std.proofs.Common.{◌≡◌, refl, sym, ap, subst, ◌∙◌, ℕ, zero, suc, ◌+◌, ◌≤◌, ◌<◌, true, List, [], ◌∷◌, ◌++◌, length, get_or, take, append_assoc, append-nil, length-set, get_or-set_same, get_or-set_other, arith}
-use Rattle.std.specs.Prelude.{Some}
-use Rattle.std.proofs.Math.ListN.{set}
-use Rattle.std.proofs.Math.Seq.{get_or-take, length-take-le}
+use Rattle.std.proofs.Common.{◌≡◌, refl, sym, ap, subst, ◌∙◌, ℕ, zero, suc, ◌+◌, ◌≤◌, ◌<◌, true, List, [], ◌∷◌, ◌++◌, length, get_or, append_assoc, append-nil, arith}
+use Rattle.std.proofs.Math.ListN.{get_or-append}
+use Rattle.std.proofs.Math.Seq.{get_or-append_seam}
 use Rattle.std.proofs.lemmas.Bool.Decides.{nat_tests}
+use Rattle.std.proofs.lemmas.List.{length-append}
 use borrow.Author.Tests.{eq-eqb}
 use Rattle.tariff.specs.declared.Phase.{Phase}
 use Rattle.phase_lists.specs.Lists.{phase_of, first_phases, phases_of, one_length}
 use Rattle.phase_lines.specs.declared.Phases.{Phases}
-use Rattle.phase_lines.specs.Gathering.{none_read, stored, with_line, lists_of_phases, with_all, AsRead}
+use Rattle.phase_lines.specs.Gathering.{none_read, pushed, with_phase, with_line, lists_of_phases, with_all, AsRead}
 
--- one number more in a list leaves those before it
-still : (n : List ℕ) (k v i : ℕ) → i < k → get_or (take (k + 1) (set n k v)) i 0 ≡ get_or (take k n) i 0
-still n k v i before =
-    get_or-take (k + 1) (set n k v) i 0 (omega arith)
-    ∙ get_or-set_other n k i v 0 (λ same. omega arith)
-    ∙ sym (get_or-take k n i 0 before)
+-- a number more, where fewer than nine are kept
+module _ (k : ℕ) (room : k < 9) where
+  at_end : (l : List ℕ) (v : ℕ) → length l ≡ k → pushed l v ≡ l ++ (v ∷ [])
+  at_end l v long = grind (arith, nat_tests)
 
--- and comes after them
-comes : (n : List ℕ) (k v : ℕ) → k < length n → get_or (take (k + 1) (set n k v)) k 0 ≡ v
-comes n k v room = get_or-take (k + 1) (set n k v) k 0 (omega arith) ∙ get_or-set_same n k v 0 room
+  longer : (l : List ℕ) (v : ℕ) → length l ≡ k → length (pushed l v) ≡ suc k
+  longer l v long = ap length (at_end l v long) ∙ length-append l (v ∷ []) ∙ omega (arith, long)
 
--- each list has nine places
-record Nine (s : Phases) : Type 0 where
-  pub pri : length s.pri ≡ 9
-  pub pcx : length s.pcx ≡ 9
-  pub repx : length s.repx ≡ 9
-  pub pcn : length s.pcn ≡ 9
-  pub repn : length s.repn ≡ 9
-  pub ci : length s.ci ≡ 9
-  pub pd : length s.pd ≡ 9
+  -- leaves those before it
+  still : (l : List ℕ) (v i : ℕ) → length l ≡ k → i < k → get_or (pushed l v) i 0 ≡ get_or l i 0
+  still l v i long before =
+      ap (λ (m : List ℕ). get_or m i 0) (at_end l v long) ∙ get_or-append l (v ∷ []) 0 i (omega (arith, long))
 
-stored-nine : (s : Phases) (p : Phase) → Nine s → Nine (stored s p)
-stored-nine s p nine =
-    record {
-      pri = length-set _ _ _ ∙ nine.pri;
-      pcx = length-set _ _ _ ∙ nine.pcx;
-      repx = length-set _ _ _ ∙ nine.repx;
-      pcn = length-set _ _ _ ∙ nine.pcn;
-      repn = length-set _ _ _ ∙ nine.repn;
-      ci = length-set _ _ _ ∙ nine.ci;
-      pd = length-set _ _ _ ∙ nine.pd;
-    }
+  -- and comes after them
+  comes : (l : List ℕ) (v : ℕ) → length l ≡ k → get_or (pushed l v) k 0 ≡ v
+  comes l v long =
+      ap (λ (m : List ℕ). get_or m k 0) (at_end l v long)
+      ∙ ap (λ (j : ℕ). get_or (l ++ (v ∷ [])) j 0) (sym long)
+      ∙ get_or-append_seam l v [] 0
 
-module _ (s : Phases) (p : Phase) (nine : Nine s) (room : s.taken < 9) where
-  kept : (i : ℕ) → i < s.taken → phase_of (lists_of_phases (stored s p)) i ≡ phase_of (lists_of_phases s) i
+-- each list has k numbers
+record Long (s : Phases) (k : ℕ) : Type 0 where
+  pub pri : length s.pri.items ≡ k
+  pub pcx : length s.pcx.items ≡ k
+  pub repx : length s.repx.items ≡ k
+  pub pcn : length s.pcn.items ≡ k
+  pub repn : length s.repn.items ≡ k
+  pub ci : length s.ci.items ≡ k
+  pub pd : length s.pd.items ≡ k
+
+module _ (s : Phases) (p : Phase) (k : ℕ) (long : Long s k) (room : k < 9) where
+  one_longer : Long (with_phase s p) (suc k)
+  one_longer =
+      record {
+        pri = longer k room _ _ long.pri;
+        pcx = longer k room _ _ long.pcx;
+        repx = longer k room _ _ long.repx;
+        pcn = longer k room _ _ long.pcn;
+        repn = longer k room _ _ long.repn;
+        ci = longer k room _ _ long.ci;
+        pd = longer k room _ _ long.pd;
+      }
+
+  kept : (i : ℕ) → i < k → phase_of (lists_of_phases (with_phase s p)) i ≡ phase_of (lists_of_phases s) i
   kept i before =
-      let k = s.taken in
       rw (
-        still s.pri k p.pri i before,
-        still s.pcx k p.pcx i before,
-        still s.repx k p.repx i before,
-        still s.pcn k p.pcn i before,
-        still s.repn k p.repn i before,
-        still s.ci k p.ci i before,
-        still s.pd k p.pd i before,
+        still k room s.pri.items _ i long.pri before,
+        still k room s.pcx.items _ i long.pcx before,
+        still k room s.repx.items _ i long.repx before,
+        still k room s.pcn.items _ i long.pcn before,
+        still k room s.repn.items _ i long.repn before,
+        still k room s.ci.items _ i long.ci before,
+        still k room s.pd.items _ i long.pd before,
       )
 
-  this : phase_of (lists_of_phases (stored s p)) s.taken ≡ p
+  this : phase_of (lists_of_phases (with_phase s p)) k ≡ p
   this =
-      let k = s.taken in
       rw (
-        comes s.pri k p.pri (omega (arith, nine.pri)),
-        comes s.pcx k p.pcx (omega (arith, nine.pcx)),
-        comes s.repx k p.repx (omega (arith, nine.repx)),
-        comes s.pcn k p.pcn (omega (arith, nine.pcn)),
-        comes s.repn k p.repn (omega (arith, nine.repn)),
-        comes s.ci k p.ci (omega (arith, nine.ci)),
-        comes s.pd k p.pd (omega (arith, nine.pd)),
+        comes k room s.pri.items p.pri long.pri,
+        comes k room s.pcx.items p.pcx long.pcx,
+        comes k room s.repx.items p.repx long.repx,
+        comes k room s.pcn.items p.pcn long.pcn,
+        comes k room s.repn.items p.repn long.repn,
+        comes k room s.ci.items p.ci long.ci,
+        comes k room s.pd.items p.pd long.pd,
       )
 
-  before-this : (i : ℕ) → i ≤ s.taken → first_phases (lists_of_phases (stored s p)) i ≡ first_phases (lists_of_phases s) i
+  before-this : (i : ℕ) → i ≤ k → first_phases (lists_of_phases (with_phase s p)) i ≡ first_phases (lists_of_phases s) i
   unfolding first_phases
   before-this zero few = refl
   before-this (suc i) few = rw (before-this i (omega arith), kept i (omega arith))
 
-  one_more_lem : phases_of (lists_of_phases (stored s p)) ≡ phases_of (lists_of_phases s) ++ (p ∷ [])
+  one_more_lem : phases_of (lists_of_phases (with_phase s p)) ≡ phases_of (lists_of_phases s) ++ (p ∷ [])
   unfolding first_phases
   one_more_lem =
-      let k = s.taken in
-      let n = set s.pri k p.pri in
-      let held : length (take (k + 1) n) ≡ suc k = length-take-le (k + 1) n (omega (arith, length-set s.pri k p.pri, nine.pri)) ∙ omega arith in
-      let had : length (take k s.pri) ≡ k = length-take-le k s.pri (omega (arith, nine.pri)) in
-      rw (held, had, before-this k (omega arith), this)
+      let after = lists_of_phases (with_phase s p) in
+      let before = first_phases (lists_of_phases s) in
+      ap (first_phases after) (longer k room s.pri.items p.pri long.pri)
+      ∙ ap (λ (qs : List Phase). qs ++ (phase_of after k ∷ [])) (before-this k (omega arith))
+      ∙ ap (λ (q : Phase). before k ++ (q ∷ [])) this
+      ∙ ap (λ (j : ℕ). before j ++ (p ∷ [])) (sym long.pri)
 
-  taken_in : with_line s (Some p) ≡ stored s p
-  unfolding with_line
-  taken_in = grind (arith, nat_tests)
-
-with_all_lem : (ps : List Phase) (s : Phases) → Nine s → s.taken + length ps ≤ 9
+with_all_lem : (ps : List Phase) (s : Phases) (k : ℕ) → Long s k → k + length ps ≤ 9
     → phases_of (lists_of_phases (with_all s ps)) ≡ phases_of (lists_of_phases s) ++ ps
-unfolding with_all
-with_all_lem [] s nine room = sym (append-nil (phases_of (lists_of_phases s)))
-with_all_lem (p ∷ ps) s nine room =
-    let few : s.taken < 9 = omega arith in
-    let more = one_more_lem s p nine few in
-    ap (λ (t : Phases). phases_of (lists_of_phases (with_all t ps))) (taken_in s p nine few)
-    ∙ with_all_lem ps (stored s p) (stored-nine s p nine) (omega arith)
+unfolding with_all with_line
+with_all_lem [] s k long room = sym (append-nil (phases_of (lists_of_phases s)))
+with_all_lem (p ∷ ps) s k long room =
+    let few : k < 9 = omega arith in
+    let more = one_more_lem s p k long few in
+    with_all_lem ps (with_phase s p) (suc k) (one_longer s p k long few) (omega arith)
     ∙ rw (more, append_assoc)
 
--- nine at most are taken
-record Fits (s : Phases) : Type 0 where
-  pub nine : Nine s
-  pub few : s.taken ≤ 9
+all_long : (ps : List Phase) (s : Phases) (k : ℕ) → Long s k → k + length ps ≤ 9 → Long (with_all s ps) (k + length ps)
+unfolding with_all with_line
+all_long [] s k long room = subst (Long s) (omega arith) long
+all_long (p ∷ ps) s k long room =
+    let few : k < 9 = omega arith in
+    subst (Long (with_all (with_phase s p) ps)) (omega arith)
+    (all_long ps (with_phase s p) (suc k) (one_longer s p k long few) (omega arith))
 
-all_fit : (ps : List Phase) (s : Phases) → Nine s → s.taken + length ps ≤ 9 → Fits (with_all s ps)
-unfolding with_all
-all_fit [] s nine room = record { nine = nine; few = omega arith }
-all_fit (p ∷ ps) s nine room =
-    subst (λ (t : Phases). Fits (with_all t ps)) (sym (taken_in s p nine (omega arith)))
-    (all_fit ps (stored s p) (stored-nine s p nine) (omega arith))
+as_long : (s : Phases) (k : ℕ) → Long s k → one_length (lists_of_phases s) ≡ true
+as_long s k long =
+    rw (long.pri, long.pcx, long.repx, long.pcn, long.repn, long.ci, long.pd, eq-eqb k k refl)
 
-as_long : (s : Phases) → Fits s → one_length (lists_of_phases s) ≡ true
-as_long s fits =
-    rw (
-      cut s.pri fits.nine.pri,
-      cut s.pcx fits.nine.pcx,
-      cut s.repx fits.nine.repx,
-      cut s.pcn fits.nine.pcn,
-      cut s.repn fits.nine.repn,
-      cut s.ci fits.nine.ci,
-      cut s.pd fits.nine.pd,
-      eq-eqb s.taken s.taken refl,
-    )
-  where
-    cut : (n : List ℕ) → length n ≡ 9 → length (take s.taken n) ≡ s.taken
-    cut n nine = length-take-le s.taken n (omega (arith, nine, fits.few))
-
-none-nine : Nine none_read
-none-nine = record { pri = refl; pcx = refl; repx = refl; pcn = refl; repn = refl; ci = refl; pd = refl }
+none-long : Long none_read 0
+none-long = record { pri = refl; pcx = refl; repx = refl; pcn = refl; repn = refl; ci = refl; pd = refl }
 
 pub as_read : AsRead
 unfolding with_all first_phases
 as_read ps room =
-    (as_long (with_all none_read ps) (all_fit ps none_read none-nine (omega arith)), with_all_lem ps none_read none-nine (omega arith))
+    let full : 0 + length ps ≤ 9 = omega arith in (
+      as_long (with_all none_read ps) (0 + length ps) (all_long ps none_read 0 none-long full),
+      with_all_lem ps none_read 0 none-long full,
+    )

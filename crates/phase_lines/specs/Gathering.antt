@@ -1,6 +1,7 @@
 -- The phase lines that a descriptor of a script has got so far, and the seven lists that they make.
-use Rattle.std.specs.Prelude.{◌≡◌, true, false, List, [], ◌∷◌, ◌+◌, ◌≤◌, nat_lt, length, set, take, replicate}
-use Rattle.std.specs.Prelude.{Option, Some, None, if◌then◌else◌}
+use Rattle.std.specs.Prelude.{◌≡◌, ℕ, ◌≤◌, nat_lt, true, false, if◌then◌else◌}
+use Rattle.std.specs.Prelude.{List, [], ◌∷◌, ◌++◌, length, Option, Some, None}
+use Rattle.arrayvec.specs.ArrayVec.{ArrayVec}
 use Rattle.tariff.specs.declared.Phase.{Phase}
 use Rattle.phase_lists.specs.Lists.{Lists, lists_of, phases_of, one_length}
 use Rattle.phase_lines.specs.declared.Phases.{Phases}
@@ -8,36 +9,26 @@ use Rattle.phase_lines.specs.declared.Phases.{Phases}
 -- before the first line
 abbrev pub none_read : Phases
 none_read =
-    record {
-      taken = 0;
-      bad = false;
-      pri = replicate 9 0;
-      pcx = replicate 9 0;
-      repx = replicate 9 0;
-      pcn = replicate 9 0;
-      repn = replicate 9 0;
-      ci = replicate 9 0;
-      pd = replicate 9 0;
-    }
+    let none : ArrayVec ℕ = record { items = [] } in
+    record { bad = false; pri = none; pcx = none; repx = none; pcn = none; repn = none; ci = none; pd = none }
 
--- with one phase more, whose numbers go to the next place of each list
-abbrev pub stored : Phases → Phase → Phases
-stored s p =
-    record {
-      taken = s.taken + 1;
-      bad = s.bad;
-      pri = set s.pri s.taken p.pri;
-      pcx = set s.pcx s.taken p.pcx;
-      repx = set s.repx s.taken p.repx;
-      pcn = set s.pcn s.taken p.pcn;
-      repn = set s.repn s.taken p.repn;
-      ci = set s.ci s.taken p.ci;
-      pd = set s.pd s.taken p.pd;
-    }
+-- one number more in a list: past nine it is left out
+abbrev pub pushed : List ℕ → ℕ → List ℕ
+pushed l v = if nat_lt (length l) 9 then l ++ (v ∷ []) else l
 
--- past nine it is left out
+-- with one phase more, whose numbers go to the end of each list
 abbrev pub with_phase : Phases → Phase → Phases
-with_phase s p = if nat_lt s.taken 9 then stored s p else s
+with_phase s p =
+    record {
+      bad = s.bad;
+      pri = record { items = pushed s.pri.items p.pri };
+      pcx = record { items = pushed s.pcx.items p.pcx };
+      repx = record { items = pushed s.repx.items p.repx };
+      pcn = record { items = pushed s.pcn.items p.pcn };
+      repn = record { items = pushed s.repn.items p.repn };
+      ci = record { items = pushed s.ci.items p.ci };
+      pd = record { items = pushed s.pd.items p.pd };
+    }
 
 -- a bad line leaves the lists as they are
 unfoldable pub with_line : Phases → Option Phase → Phases
@@ -46,9 +37,7 @@ with_line s None = record s { bad = true }
 
 -- the numbers that were read, in the seven lists
 abbrev pub lists_of_phases : Phases → Lists
-lists_of_phases s =
-    let k = s.taken in
-    lists_of (take k s.pri) (take k s.pcx) (take k s.repx) (take k s.pcn) (take k s.repn) (take k s.ci) (take k s.pd)
+lists_of_phases s = lists_of s.pri.items s.pcx.items s.repx.items s.pcn.items s.repn.items s.ci.items s.pd.items
 
 -- ---- what the lines say
 

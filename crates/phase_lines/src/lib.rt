@@ -1,39 +1,42 @@
 // The phase lines that a descriptor of a script has got so far, and the descriptor with them.
 #![tactic(auto)]
 
-ghost use Rattle.std.specs.Prelude.{◌≡◌, take};
+ghost use Rattle.std.specs.Prelude.{◌≡◌};
 ghost use Rattle.grammar.specs.Meaning.{descriptor};
 ghost use Rattle.line.specs.Lines.{meant_by};
 ghost use Rattle.phase_lists.specs.Lists.{lists_in};
-ghost use Rattle.phase_lines.specs.Gathering.{none_read, with_phase, with_line, lists_of_phases};
+ghost use Rattle.phase_lines.specs.Gathering.{none_read, pushed, with_phase, with_line, lists_of_phases};
 
 mod waiting;
 
+use arrayvec::ArrayVec;
 use descriptor::{BurstPart, Descriptor, TariffPart};
 use phase_lists::PhaseLists;
 use tariff::Phase;
 pub use waiting::Waiting;
 
-// How many phases were read, at most nine, whether a line was bad, and the numbers of the phases, by name.
-// Stays: fixed memory, and a line takes a list for each name; a phase line that is bad leaves those before it.
-#[derive(Clone, Copy, PartialEq, Eq, Debug)]
+// Whether a line was bad, and the numbers of the first nine phases that were read, a list for each name. Their place is
+// fixed, so that no line fails for want of memory.
+// Stays: seven lists and no list of phases, since a descriptor lends seven; a bad phase line leaves those before it.
+#[derive(PartialEq, Eq, Debug, Default, Drop)]
 pub struct Phases {
-    pub taken: usize,
     pub bad: bool,
-    pub pri: [u32; 9],
-    pub pcx: [u32; 9],
-    pub repx: [u32; 9],
-    pub pcn: [u32; 9],
-    pub repn: [u32; 9],
-    pub ci: [u32; 9],
-    pub pd: [u32; 9],
+    pub pri: ArrayVec<u32, 9>,
+    pub pcx: ArrayVec<u32, 9>,
+    pub repx: ArrayVec<u32, 9>,
+    pub pcn: ArrayVec<u32, 9>,
+    pub repn: ArrayVec<u32, 9>,
+    pub ci: ArrayVec<u32, 9>,
+    pub pd: ArrayVec<u32, 9>,
 }
 
-// The first k numbers of a list.
-fn first(list: &[u32], k: usize) -> &[u32]
-    ensures { result.now ≡ take k list.now }
+// One number more in a list. Past nine it is left out.
+fn push(list: &mut ArrayVec<u32, 9>, v: u32)
+    ensures { list.new.items ≡ pushed list.old.items v }
 {
-    &list[..k.min(list.len())]
+    if !list.is_full() {
+        list.push(v);
+    }
 }
 
 impl Phases {
@@ -41,34 +44,20 @@ impl Phases {
     pub fn new() -> Phases
         ensures { result ≡ none_read }
     {
-        Phases {
-            taken: 0,
-            bad: false,
-            pri: [0; 9],
-            pcx: [0; 9],
-            repx: [0; 9],
-            pcn: [0; 9],
-            repn: [0; 9],
-            ci: [0; 9],
-            pd: [0; 9],
-        }
+        Phases::default()
     }
 
     // With one more phase.
     fn with_phase(mut self, p: Phase) -> Phases
         ensures { result ≡ with_phase self p }
     {
-        let at = self.taken;
-        if at < 9 {
-            self.pri[at] = p.pri;
-            self.pcx[at] = p.pcx;
-            self.repx[at] = p.repx;
-            self.pcn[at] = p.pcn;
-            self.repn[at] = p.repn;
-            self.ci[at] = p.ci;
-            self.pd[at] = p.pd;
-            self.taken = at + 1;
-        }
+        push(&mut self.pri, p.pri);
+        push(&mut self.pcx, p.pcx);
+        push(&mut self.repx, p.repx);
+        push(&mut self.pcn, p.pcn);
+        push(&mut self.repn, p.repn);
+        push(&mut self.ci, p.ci);
+        push(&mut self.pd, p.pd);
         self
     }
 
@@ -87,15 +76,14 @@ impl Phases {
     fn lists(&self) -> PhaseLists<'_>
         ensures { lists_in result ≡ lists_of_phases self.now }
     {
-        let k = self.taken;
         PhaseLists {
-            pri: first(&self.pri, k),
-            pcx: first(&self.pcx, k),
-            repx: first(&self.repx, k),
-            pcn: first(&self.pcn, k),
-            repn: first(&self.repn, k),
-            ci: first(&self.ci, k),
-            pd: first(&self.pd, k),
+            pri: self.pri.as_slice(),
+            pcx: self.pcx.as_slice(),
+            repx: self.repx.as_slice(),
+            pcn: self.pcn.as_slice(),
+            repn: self.repn.as_slice(),
+            ci: self.ci.as_slice(),
+            pd: self.pd.as_slice(),
         }
     }
 

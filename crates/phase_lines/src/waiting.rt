@@ -7,7 +7,7 @@ use descriptor::{BurstPart, Descriptor, TariffPart};
 use tariff::Phase;
 
 // How many phase lines are missing, the burst part, and the phases that were read.
-#[derive(Clone, Copy, PartialEq, Eq, Debug)]
+#[derive(PartialEq, Eq, Debug, Drop)]
 pub struct Waiting {
     pub missing: u32,
     pub burst: BurstPart,
