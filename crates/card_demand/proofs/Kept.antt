@@ -1,8 +1,8 @@
 -- What the dispatcher keeps is what a history says, and no line is passed over for long.
 use mathlib.Core.Path.{◌≡◌, refl, sym, ap, subst, fun_ext, ◌∙◌}
-use mathlib.Core.Bool.{Bool, true, false, cond, ◌&&◌, true≢false}
+use mathlib.Core.Bool.{Bool, true, false, cond, true≢false}
 use mathlib.Core.List.{List, [], ◌∷◌, ◌++◌, map}
-use Prim.Native.Nat.{ℕ, zero, suc, ◌+◌, min, ◌≤◌, ◌<◌}
+use Prim.Native.Nat.{ℕ, ◌+◌, min, ◌≤◌, ◌<◌}
 use native.Mathlib.Decide.{dec_lt}
 use native.Mathlib.Omega.{arith}
 use borrow.Author.Tests.{eqb-true, eqb-false}
@@ -10,7 +10,7 @@ use lib.Dec.{eqb}
 use lib.ListN.{length, get_or, length-set, get_or-map}
 use Rattle.answers.specs.Fronts.{silent}
 use Rattle.answers.specs.declared.Tick.{Tick}
-use Rattle.dispatcher.specs.Dispatch.{nothing, notice, tells, gather_all, waits_in, place_after, turn_of, fresh_dispatcher, other_row, wrong_row, sent_of, served_by, sent_by, after_tick}
+use Rattle.dispatcher.specs.Dispatch.{nothing, notice, tells, gather_all, waits_in, place_after, turn_of, fresh_dispatcher, wrong_row, sent_of, served_by, sent_by, after_tick}
 use Rattle.dispatcher.specs.declared.Waiting.{Waiting}
 use Rattle.dispatcher.specs.declared.Dispatcher.{Dispatcher}
 use Rattle.dispatcher.specs.declared.Notice.{Notice}
@@ -18,7 +18,7 @@ use Rattle.std.specs.Prelude.{Option, Some, None}
 use Rattle.std.specs.Option.{option_or, unwrap_or}
 use Rattle.demand.specs.Calls.{Entry}
 use Rattle.card_demand.specs.Card.{CardCall, tick_row, done, sends, refuses, CardEntry, card_entry, told_in}
-use Rattle.card_demand.specs.Reading.{is_tick, one_if, number, lent, row_in, row_length, next_in, reported, fell, fallen, serves, since, sent_reports, left, due}
+use Rattle.card_demand.specs.Reading.{is_tick, number, lent, row_in, row_length, next_in, reported, fallen, since, sent_reports, left, due}
 use Rattle.card_demand.proofs.Round.{Round, nobody, turn-of, Foremost, going_round_lem, Passed, nearer, passed-few, passed-zero, after-inside}
 use Rattle.card_demand.proofs.Gather.{gather-length, gather-at, cleared_at, fresh_at, gathered-telling, few-step}
 
@@ -48,24 +48,9 @@ pub record Row (row : Option ℕ) (n : ℕ) : Type 0 where
   pub most : n ≤ 64
   pub may : May row n
 
-same-row : (row : Option ℕ) (n : ℕ) → other_row row n ≡ false → May row n
-same-row None n h = tt
-same-row (Some k) n h = by (eqb n k) refl h
-  where
-    by : (b : Bool) → eqb n k ≡ b → not b ≡ false → k ≡ n
-    by true e h = sym (eqb-true n k e)
-    by false e h = absurd (true≢false h)
-
 pub accepted-row : (row : Option ℕ) (n : ℕ) → wrong_row row n ≡ false → Row row n
-accepted-row row n h = by (eqb n 0) (ltb 64 n) (other_row row n) refl refl refl h
-  where
-    by : (p q r : Bool) → eqb n 0 ≡ p → ltb 64 n ≡ q → other_row row n ≡ r → ((p || q) || r) ≡ false → Row row n
-    by true q r e f g h = absurd (true≢false h)
-    by false true r e f g h = absurd (true≢false h)
-    by false false true e f g h = absurd (true≢false h)
-    by false false false e f g h =
-        let z = eqb-false n 0 e in
-        record { some-line = omega arith; most = ltb-false 64 n f; may = same-row row n g }
+accepted-row None n h = record { some-line = grind arith; most = grind arith; may = tt }
+accepted-row (Some k) n h = record { some-line = grind arith; most = grind arith; may = grind arith }
 
 -- the first row stays
 row_stays : (N k : ℕ) (after h : List CardEntry) → row_in N h ≡ Some k → row_in N (after ++ h) ≡ Some k

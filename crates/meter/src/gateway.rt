@@ -154,6 +154,7 @@ impl Program<Stdout> for Gateway {
     }
 
     // At the end of the input, a descriptor whose phase lines are missing is bad.
+    // Stays: the same lines as in card, since the loop of both knows nothing of what is printed.
     fn close(&self, out: &mut Outlet<Stdout>) -> io::Result<()> {
         if self.waiting.is_some() {
             put_answer(out, Answer::Bad)?;

@@ -32,7 +32,7 @@ impl Default for Values {
 
 impl Values {
     // One value more. Past nine it is left out.
-    pub(crate) fn push(&mut self, v: u32)
+    pub fn push(&mut self, v: u32)
         ensures { self.new ≡ pushed self.old v }
     {
         if !self.items.is_full() {

@@ -6,9 +6,10 @@ use Rattle.std.proofs.lemmas.Bool.Decides.{nat_tests}
 use Rattle.std.proofs.lemmas.List.{length-append}
 use borrow.Author.Tests.{eq-eqb}
 use Rattle.tariff.specs.declared.Phase.{Phase}
+use Rattle.notes.specs.Noting.{pushed}
 use Rattle.phase_lists.specs.Lists.{phase_of, first_phases, phases_of, one_length}
 use Rattle.phase_lines.specs.declared.Phases.{Phases}
-use Rattle.phase_lines.specs.Gathering.{none_read, pushed, with_phase, with_line, lists_of_phases, with_all, AsRead}
+use Rattle.phase_lines.specs.Gathering.{none_read, with_phase, with_line, lists_of_phases, with_all, AsRead}
 
 -- a number more, where fewer than nine are kept
 module _ (k : ℕ) (room : k < 9) where
@@ -32,13 +33,13 @@ module _ (k : ℕ) (room : k < 9) where
 
 -- each list has k numbers
 record Long (s : Phases) (k : ℕ) : Type 0 where
-  pub pri : length s.pri.items ≡ k
-  pub pcx : length s.pcx.items ≡ k
-  pub repx : length s.repx.items ≡ k
-  pub pcn : length s.pcn.items ≡ k
-  pub repn : length s.repn.items ≡ k
-  pub ci : length s.ci.items ≡ k
-  pub pd : length s.pd.items ≡ k
+  pub pri : length s.pri ≡ k
+  pub pcx : length s.pcx ≡ k
+  pub repx : length s.repx ≡ k
+  pub pcn : length s.pcn ≡ k
+  pub repn : length s.repn ≡ k
+  pub ci : length s.ci ≡ k
+  pub pd : length s.pd ≡ k
 
 module _ (s : Phases) (p : Phase) (k : ℕ) (long : Long s k) (room : k < 9) where
   one_longer : Long (with_phase s p) (suc k)
@@ -56,25 +57,25 @@ module _ (s : Phases) (p : Phase) (k : ℕ) (long : Long s k) (room : k < 9) whe
   kept : (i : ℕ) → i < k → phase_of (lists_of_phases (with_phase s p)) i ≡ phase_of (lists_of_phases s) i
   kept i before =
       rw (
-        still k room s.pri.items _ i long.pri before,
-        still k room s.pcx.items _ i long.pcx before,
-        still k room s.repx.items _ i long.repx before,
-        still k room s.pcn.items _ i long.pcn before,
-        still k room s.repn.items _ i long.repn before,
-        still k room s.ci.items _ i long.ci before,
-        still k room s.pd.items _ i long.pd before,
+        still k room s.pri _ i long.pri before,
+        still k room s.pcx _ i long.pcx before,
+        still k room s.repx _ i long.repx before,
+        still k room s.pcn _ i long.pcn before,
+        still k room s.repn _ i long.repn before,
+        still k room s.ci _ i long.ci before,
+        still k room s.pd _ i long.pd before,
       )
 
   this : phase_of (lists_of_phases (with_phase s p)) k ≡ p
   this =
       rw (
-        comes k room s.pri.items p.pri long.pri,
-        comes k room s.pcx.items p.pcx long.pcx,
-        comes k room s.repx.items p.repx long.repx,
-        comes k room s.pcn.items p.pcn long.pcn,
-        comes k room s.repn.items p.repn long.repn,
-        comes k room s.ci.items p.ci long.ci,
-        comes k room s.pd.items p.pd long.pd,
+        comes k room s.pri p.pri long.pri,
+        comes k room s.pcx p.pcx long.pcx,
+        comes k room s.repx p.repx long.repx,
+        comes k room s.pcn p.pcn long.pcn,
+        comes k room s.repn p.repn long.repn,
+        comes k room s.ci p.ci long.ci,
+        comes k room s.pd p.pd long.pd,
       )
 
   before-this : (i : ℕ) → i ≤ k → first_phases (lists_of_phases (with_phase s p)) i ≡ first_phases (lists_of_phases s) i
@@ -87,7 +88,7 @@ module _ (s : Phases) (p : Phase) (k : ℕ) (long : Long s k) (room : k < 9) whe
   one_more_lem =
       let after = lists_of_phases (with_phase s p) in
       let before = first_phases (lists_of_phases s) in
-      ap (first_phases after) (longer k room s.pri.items p.pri long.pri)
+      ap (first_phases after) (longer k room s.pri p.pri long.pri)
       ∙ ap (λ (qs : List Phase). qs ++ (phase_of after k ∷ [])) (before-this k (omega arith))
       ∙ ap (λ (q : Phase). before k ++ (q ∷ [])) this
       ∙ ap (λ (j : ℕ). before j ++ (p ∷ [])) (sym long.pri)

@@ -1,33 +1,28 @@
 -- The phase lines that a descriptor of a script has got so far, and the seven lists that they make.
-use Rattle.std.specs.Prelude.{◌≡◌, ℕ, ◌≤◌, nat_lt, true, false, if◌then◌else◌}
-use Rattle.std.specs.Prelude.{List, [], ◌∷◌, ◌++◌, length, Option, Some, None}
-use Rattle.arrayvec.specs.ArrayVec.{ArrayVec}
+use Rattle.std.specs.Prelude.{◌≡◌, ◌≤◌, true, false}
+use Rattle.std.specs.Prelude.{List, [], ◌∷◌, length, Option, Some, None}
 use Rattle.tariff.specs.declared.Phase.{Phase}
+use Rattle.notes.specs.Noting.{pushed}
 use Rattle.phase_lists.specs.Lists.{Lists, lists_of, phases_of, one_length}
 use Rattle.phase_lines.specs.declared.Phases.{Phases}
 
 -- before the first line
 abbrev pub none_read : Phases
 none_read =
-    let none : ArrayVec ℕ = record { items = [] } in
-    record { bad = false; pri = none; pcx = none; repx = none; pcn = none; repn = none; ci = none; pd = none }
-
--- one number more in a list: past nine it is left out
-abbrev pub pushed : List ℕ → ℕ → List ℕ
-pushed l v = if nat_lt (length l) 9 then l ++ (v ∷ []) else l
+    record { bad = false; pri = []; pcx = []; repx = []; pcn = []; repn = []; ci = []; pd = [] }
 
 -- with one phase more, whose numbers go to the end of each list
 abbrev pub with_phase : Phases → Phase → Phases
 with_phase s p =
     record {
       bad = s.bad;
-      pri = record { items = pushed s.pri.items p.pri };
-      pcx = record { items = pushed s.pcx.items p.pcx };
-      repx = record { items = pushed s.repx.items p.repx };
-      pcn = record { items = pushed s.pcn.items p.pcn };
-      repn = record { items = pushed s.repn.items p.repn };
-      ci = record { items = pushed s.ci.items p.ci };
-      pd = record { items = pushed s.pd.items p.pd };
+      pri = pushed s.pri p.pri;
+      pcx = pushed s.pcx p.pcx;
+      repx = pushed s.repx p.repx;
+      pcn = pushed s.pcn p.pcn;
+      repn = pushed s.repn p.repn;
+      ci = pushed s.ci p.ci;
+      pd = pushed s.pd p.pd;
     }
 
 -- a bad line leaves the lists as they are
@@ -37,7 +32,7 @@ with_line s None = record s { bad = true }
 
 -- the numbers that were read, in the seven lists
 abbrev pub lists_of_phases : Phases → Lists
-lists_of_phases s = lists_of s.pri.items s.pcx.items s.repx.items s.pcn.items s.repn.items s.ci.items s.pd.items
+lists_of_phases s = lists_of s.pri s.pcx s.repx s.pcn s.repn s.ci s.pd
 
 -- ---- what the lines say
 

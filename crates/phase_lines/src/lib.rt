@@ -5,38 +5,28 @@ ghost use Rattle.std.specs.Prelude.{◌≡◌};
 ghost use Rattle.grammar.specs.Meaning.{descriptor};
 ghost use Rattle.line.specs.Lines.{meant_by};
 ghost use Rattle.phase_lists.specs.Lists.{lists_in};
-ghost use Rattle.phase_lines.specs.Gathering.{none_read, pushed, with_phase, with_line, lists_of_phases};
+ghost use Rattle.phase_lines.specs.Gathering.{none_read, with_phase, with_line, lists_of_phases};
 
 mod waiting;
 
-use arrayvec::ArrayVec;
 use descriptor::{BurstPart, Descriptor, TariffPart};
+use notes::Values;
 use phase_lists::PhaseLists;
 use tariff::Phase;
 pub use waiting::Waiting;
 
-// Whether a line was bad, and the numbers of the first nine phases that were read, a list for each name. Their place is
-// fixed, so that no line fails for want of memory.
+// Whether a line was bad, and the numbers of the first nine phases that were read, by name.
 // Stays: seven lists and no list of phases, since a descriptor lends seven; a bad phase line leaves those before it.
-#[derive(PartialEq, Eq, Debug, Default, Drop)]
+#[derive(Default, Drop)]
 pub struct Phases {
     pub bad: bool,
-    pub pri: ArrayVec<u32, 9>,
-    pub pcx: ArrayVec<u32, 9>,
-    pub repx: ArrayVec<u32, 9>,
-    pub pcn: ArrayVec<u32, 9>,
-    pub repn: ArrayVec<u32, 9>,
-    pub ci: ArrayVec<u32, 9>,
-    pub pd: ArrayVec<u32, 9>,
-}
-
-// One number more in a list. Past nine it is left out.
-fn push(list: &mut ArrayVec<u32, 9>, v: u32)
-    ensures { list.new.items ≡ pushed list.old.items v }
-{
-    if !list.is_full() {
-        list.push(v);
-    }
+    pub pri: Values,
+    pub pcx: Values,
+    pub repx: Values,
+    pub pcn: Values,
+    pub repn: Values,
+    pub ci: Values,
+    pub pd: Values,
 }
 
 impl Phases {
@@ -51,13 +41,13 @@ impl Phases {
     fn with_phase(mut self, p: Phase) -> Phases
         ensures { result ≡ with_phase self p }
     {
-        push(&mut self.pri, p.pri);
-        push(&mut self.pcx, p.pcx);
-        push(&mut self.repx, p.repx);
-        push(&mut self.pcn, p.pcn);
-        push(&mut self.repn, p.repn);
-        push(&mut self.ci, p.ci);
-        push(&mut self.pd, p.pd);
+        self.pri.push(p.pri);
+        self.pcx.push(p.pcx);
+        self.repx.push(p.repx);
+        self.pcn.push(p.pcn);
+        self.repn.push(p.repn);
+        self.ci.push(p.ci);
+        self.pd.push(p.pd);
         self
     }
 

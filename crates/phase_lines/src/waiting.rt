@@ -7,7 +7,7 @@ use descriptor::{BurstPart, Descriptor, TariffPart};
 use tariff::Phase;
 
 // How many phase lines are missing, the burst part, and the phases that were read.
-#[derive(PartialEq, Eq, Debug, Drop)]
+#[derive(Drop)]
 pub struct Waiting {
     pub missing: u32,
     pub burst: BurstPart,

@@ -22,6 +22,7 @@ pub struct PhaseLists<'a> {
 }
 
 // Phases read from seven lists: what they leave to carry, and the first eight of them at the front of an array.
+// Stays: the number of phases is one of those that are carried, and nine there stands for more than eight.
 #[derive(Clone, Copy, PartialEq, Eq, Debug)]
 pub struct PhaseTable {
     pub carry: Carry,

@@ -18,7 +18,7 @@ pub struct Phase {
 }
 
 // The phases of a phased tariff: so many, at the front of an array of eight.
-// Stays: fixed memory, so that the phases are eight with a number beside them.
+// Stays: an ArrayVec is no Copy, and calls take a line and its phases by value.
 #[derive(Clone, Copy, PartialEq, Eq, Debug, Default)]
 pub struct Schedule {
     pub count: u32,

@@ -22,6 +22,7 @@ impl Program<Stdout> for Texts {
     }
 }
 
+// Stays: a main for each program, since no library opens the standard streams.
 fn main(rt: HostRuntime) -> io::Result<()> {
     let mut from = rt.stdin();
     let mut inp = [0u8; 65536];
