@@ -121,7 +121,7 @@ impl Program<Stdout> for Card {
     }
 
     // At the end of the input, a descriptor whose phase lines are missing is bad.
-    // Stays: the same lines as in meter, since the loop of both knows nothing of what is printed.
+    // Stays: the same lines as in meter; a shared one needs a test for what waits and the text, and is no plainer.
     fn close(&self, out: &mut Outlet<Stdout>) -> io::Result<()> {
         if self.pending.is_some() {
             put_answer(out, Answer::Bad)?;

@@ -12,7 +12,7 @@ use cards::Card;
 use outlet::Outlet;
 use std::io;
 
-// Stays: a main for each program, since no library opens the standard streams.
+// Stays: each program has its main, and only a main gets the runtime.
 fn main(rt: HostRuntime) -> io::Result<()> {
     let mut from = rt.stdin();
     let mut inp = [0u8; 65536];

@@ -18,7 +18,7 @@ pub struct Gateway {
 }
 
 // Puts an answer.
-// Stays: with the call at each of its places a command took 1.1 times as long, since each place has a text of its own.
+// Stays: one line, here and in card, since printing gives texts and writes none; a crate for it is no plainer.
 fn put_answer(out: &mut Outlet<Stdout>, answer: Answer) -> io::Result<()> {
     out.write_all(answer_text(answer).as_slice())
 }
@@ -154,7 +154,7 @@ impl Program<Stdout> for Gateway {
     }
 
     // At the end of the input, a descriptor whose phase lines are missing is bad.
-    // Stays: the same lines as in card, since the loop of both knows nothing of what is printed.
+    // Stays: the same lines as in card; a shared one needs a test for what waits and the text, and is no plainer.
     fn close(&self, out: &mut Outlet<Stdout>) -> io::Result<()> {
         if self.waiting.is_some() {
             put_answer(out, Answer::Bad)?;

@@ -10,7 +10,8 @@ use arrayvec::ArrayVec;
 use std::io;
 use std::io::{ErrorKind, Write};
 
-// What goes to a writer, and the bytes of it that are held back.
+// A writer, and the bytes for it that are held back.
+// Stays: beside std's BufWriter, whose bytes lie on a heap, which the gateway does not have.
 #[derive(Drop)]
 pub struct Outlet<W> {
     pub to: W,

@@ -1,4 +1,4 @@
-// A text that is printed at once.
+// A text that is printed in one piece.
 ghost use Rattle.std.specs.Prelude.{◌≡◌, ◌++◌, []};
 ghost use Rattle.printing.specs.Text.{digits_of, pair_text};
 ghost use Rattle.printing.specs.Room.{extended};

@@ -22,7 +22,7 @@ impl Program<Stdout> for Texts {
     }
 }
 
-// Stays: a main for each program, since no library opens the standard streams.
+// Stays: each program has its main, and only a main gets the runtime.
 fn main(rt: HostRuntime) -> io::Result<()> {
     let mut from = rt.stdin();
     let mut inp = [0u8; 65536];

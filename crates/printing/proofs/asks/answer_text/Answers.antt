@@ -1,3 +1,4 @@
+-- `answer_text` meets its contract.
 use Rattle.printing.specs.declared.Answer.TheVariants.{Ok, No, Bad}
 use Rattle.printing.proofs.RoomLaws.{whole}
 use Rattle.printing.proofs.LengthLaws.{length_answer}

@@ -1,3 +1,4 @@
+-- `asked_text` meets its contract.
 use Rattle.std.proofs.Common.{refl}
 use Rattle.printing.specs.declared.Answer.TheVariants.{Ok, No}
 use Rattle.printing.proofs.RoomLaws.{whole}

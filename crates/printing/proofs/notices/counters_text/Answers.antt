@@ -1,3 +1,4 @@
+-- `counters_text` meets its contract.
 use Rattle.std.proofs.Common.{refl}
 use Rattle.printing.specs.Text.{counters_text}
 use Rattle.printing.proofs.RoomLaws.{whole}

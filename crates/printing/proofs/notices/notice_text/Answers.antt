@@ -1,3 +1,4 @@
+-- `notice_text` meets its contract.
 use Rattle.printing.specs.Bytes.{bytes}
 use Rattle.printing.specs.Text.{bit}
 use Rattle.printing.proofs.RoomLaws.{then_number, whole}

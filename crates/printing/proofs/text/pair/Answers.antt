@@ -1,3 +1,4 @@
+-- `pair` meets its contract.
 use Rattle.printing.specs.Bytes.{bytes}
 use Rattle.printing.proofs.RoomLaws.{then_number}
 use Rattle.printing.proofs.text.pair.Goals as goal

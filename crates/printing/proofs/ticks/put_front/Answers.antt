@@ -1,3 +1,4 @@
+-- `put_front` meets its contract.
 use Rattle.std.proofs.Common.{sym}
 use Rattle.printing.proofs.RoomLaws.{unextended}
 use Rattle.printing.proofs.ticks.put_front.Goals as goal

@@ -1,3 +1,4 @@
+-- `put_letter` meets its contract.
 use Rattle.printing.specs.Bytes.{bytes}
 use Rattle.printing.proofs.RoomLaws.{then_number}
 use Rattle.printing.proofs.ticks.put_letter.Goals as goal

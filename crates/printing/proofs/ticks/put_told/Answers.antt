@@ -1,3 +1,4 @@
+-- `put_told` meets its contract.
 use Rattle.std.proofs.Common.{sym}
 use Rattle.printing.proofs.RoomLaws.{unextended}
 use Rattle.printing.proofs.ticks.put_told.Goals as goal

@@ -1,3 +1,4 @@
+-- `tick_text` meets its contract.
 use Rattle.printing.proofs.RoomLaws.{then, whole}
 use Rattle.printing.proofs.LengthLaws.{length_tick}
 use Rattle.printing.proofs.ticks.tick_text.Goals as goal

@@ -1,3 +1,4 @@
+-- `Text::put` meets its contract.
 use Rattle.std.proofs.Common.{refl}
 use Rattle.printing.proofs.RoomLaws.{written}
 use Rattle.printing.proofs.text.Text.put.Goals as goal

@@ -1,3 +1,4 @@
+-- `Text::put_around` meets its contract.
 use Rattle.printing.proofs.RoomLaws.{then_number}
 use Rattle.printing.proofs.text.Text.put_around.Goals as goal
 

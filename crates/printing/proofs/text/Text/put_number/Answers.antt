@@ -1,3 +1,4 @@
+-- `Text::put_number` meets its contract.
 use Rattle.std.proofs.Common.{◌≡◌, arith, ◌^◌, ◌<◌}
 use Rattle.printing.specs.Text.{digits_of}
 use Rattle.printing.specs.Room.{extended}
