@@ -40,6 +40,7 @@ pub(crate) fn squeeze(buf: &mut [u8]) -> usize
 {
     let mut run = Run::default();
     let mut kept = 0;
+    // Stays: the buffer that is read is written in the same turn, and a slice has no `retain`.
     for j in 0..buf.len() {
         let b = buf[j];
         if !run.is_redundant(b) {
