@@ -1,38 +1,31 @@
--- Laws of going round: the first place from one on, by one place more.
+-- The first place of which a test holds, by what `find` answers.
 use mathlib.Core.Path.{◌≡◌, refl}
 use mathlib.Core.Bool.{Bool, true, false}
-use Prim.Native.Nat.{ℕ, zero, suc, ◌+◌, ◌-◌, min, ◌≤◌, ◌<◌}
-use native.Mathlib.Numerals.{add-one}
+use Prim.Native.Nat.{ℕ, zero, suc, ◌+◌, ◌-◌, ◌≤◌, ◌<◌}
 use native.Mathlib.Omega.{arith}
 use native.Mathlib.Decide.{dec_lt}
-use Rattle.std.specs.Prelude.{Some, None}
+use Rattle.std.specs.Prelude.{Option, Some, None, MatchOption}
 use Rattle.dispatcher.specs.Dispatch.{first_from}
 
-module _ (f : ℕ → Bool) (i to : ℕ) where
-  one_more_lem : i < to → to - i ≡ suc (to - (i + 1))
-  one_more_lem l = omega arith
+module _ (f : ℕ → Bool) where
+  -- it holds nowhere from place i on and before place j
+  abbrev pub Nowhere : ℕ → ℕ → Type 0
+  Nowhere i j = (n : ℕ) → i ≤ n → n < j → f n ≡ false
 
-  pub first-here : i < to → f i ≡ true → first_from f (to - i) i ≡ Some i
+  first-none : (k i : ℕ) → Nowhere i (i + k) → None ≡ first_from f k i
   unfolding first_from
-  first-here l e = rw (one_more_lem l, e)
+  first-none zero i h = refl
+  first-none (suc k) i h = rw (h i (omega arith) (omega arith)) (first-none k (suc i) (λ n a b. h n (omega arith) (omega arith)))
 
-  pub first-later : i < to → f i ≡ false → first_from f (to - i) i ≡ first_from f (to - (i + 1)) (i + 1)
+  first-some : (k i n : ℕ) → i ≤ n → n < i + k → f n ≡ true → Nowhere i n → Some n ≡ first_from f k i
   unfolding first_from
-  first-later l e = rw (one_more_lem l, e, add-one i)
+  first-some zero i n a b e h = absurd (omega arith)
+  first-some (suc k) i n a b e h =
+      elim (dec_lt i n) [
+        | yes l ↦ rw (h i (omega arith) l) (first-some k (suc i) n l (omega arith) e (λ m c d. h m (omega arith) d))
+        | no l ↦ let same : i ≡ n = omega arith in rw (same, e) refl
+      ]
 
-  none_left : to ≤ i → first_from f (to - i) i ≡ None
-  unfolding first_from
-  none_left l = let e : to - i ≡ 0 = omega arith in rw e
-
--- where f holds of no place from e on
-none-past : (f : ℕ → Bool) (e : ℕ) → ((j : ℕ) → e ≤ j → f j ≡ false) → (k i : ℕ) → e ≤ i → first_from f k i ≡ None
-unfolding first_from
-none-past f e h zero i l = refl
-none-past f e h (suc k) i l = rw (h i l) (none-past f e h k (suc i) (omega arith))
-
-pub first-none : (f : ℕ → Bool) (i to e : ℕ) → ((j : ℕ) → e ≤ j → f j ≡ false) → min to e ≤ i → first_from f (to - i) i ≡ None
-first-none f i to e h l = by (dec_lt i to)
-  where
-    by : Dec (i < to) → first_from f (to - i) i ≡ None
-    by (yes a) = none-past f e h (to - i) i (omega arith)
-    by (no a) = none_left f i to (omega arith)
+  pub first-found : (i to : ℕ) (r : Option ℕ) → MatchOption r (Nowhere i to) (λ n. (i ≤ n) × (n < to) × (f n ≡ true) × Nowhere i n) → r ≡ first_from f (to - i) i
+  first-found i to None h = first-none (to - i) i (λ n a b. h n a (omega arith))
+  first-found i to (Some n) h = first-some (to - i) i n h.0 (omega (arith, h.0, h.1)) h.2 h.3

@@ -8,6 +8,8 @@ mod serving;
 mod ticks;
 mod turns;
 
+pub use serving::is_bad_row;
+
 // What waits to be told of a line: the two completion marks, and the number of reports.
 #[derive(Clone, Copy, Default)]
 pub struct Waiting {

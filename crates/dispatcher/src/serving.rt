@@ -1,16 +1,23 @@
 // The notice of a tick, and the dispatcher after it.
 ghost use Rattle.std.specs.Prelude.{◌≡◌};
-ghost use Rattle.dispatcher.specs.Dispatch.{wrong_row, sent_of, waits_in, turn_of, served_by};
+ghost use Rattle.dispatcher.specs.Dispatch.{bad_row, wrong_row, sent_of, waits_in, turn_of, served_by};
 
 use super::turns::place_after;
 use super::{Dispatcher, Notice, Waiting};
+
+// Whether no dispatcher takes a row of n: it is empty or longer than 64.
+pub fn is_bad_row(n: usize) -> bool
+    ensures { result ≡ bad_row n }
+{
+    !(1..=64).contains(&n)
+}
 
 impl Dispatcher {
     // Whether a row of n is refused: it is empty, longer than 64, or of another length than at first.
     pub(crate) fn refuses(&self, n: usize) -> bool
         ensures { result ≡ wrong_row self.now.length n }
     {
-        n == 0 || n > 64 || self.length.is_some_and(|first| n != first)
+        is_bad_row(n) || self.length.is_some_and(|first| n != first)
     }
 
     // Serves the line whose turn it is in a row of n: nothing waits of it any more once its notice is sent.

@@ -16,12 +16,7 @@ impl Dispatcher {
     fn first_from(&self, from: usize, to: usize) -> Option<usize>
         ensures { result ≡ first_from (λ i. tells (waits_in self.now.waiting i)) (to - from) from }
     {
-        for i in from..to.min(64) {
-            if self.waiting[i].tells() {
-                return Some(i);
-            }
-        }
-        None
+        (from..to).find(|&i| self.waits_at(i).tells())
     }
 
     // Whose turn it is in a row of n: from the place after the last served to the end, and then from place 0.

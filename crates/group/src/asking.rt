@@ -1,9 +1,9 @@
 // What the lines of a group would answer.
 ghost use Rattle.std.specs.Prelude.{◌≡◌};
-ghost use Rattle.dispatcher.specs.Dispatch.{bad_row};
 ghost use Rattle.group.specs.Groups.{rate_of, verdict_of};
 
 use descriptor::{BurstPart, Descriptor, Refusal, TariffPart};
+use dispatcher::is_bad_row;
 use line::{Answered, Line, Verdict};
 use phase_lists::PhaseLists;
 
@@ -16,13 +16,6 @@ pub(crate) fn rated(line: Line, interval: u32) -> Answered
         lists: PhaseLists::empty(),
         burst: BurstPart::Keep,
     })
-}
-
-// Whether a row of n is refused: it is empty or longer than 64.
-fn is_bad_row(n: usize) -> bool
-    ensures { result ≡ bad_row n }
-{
-    n == 0 || n > 64
 }
 
 // What the group is answered: a bad row comes before a place outside the row, and that before the first line that
