@@ -1,6 +1,5 @@
 // What each line of a script does to the card.
 use super::cards::{Card, put_answer};
-use super::groups;
 use super::pending::Pending;
 use descriptor::Descriptor;
 use line::{Audited, Line};
@@ -62,8 +61,8 @@ impl Card {
         match command {
             CardCommand::Configure { pulse, gap, clock } => self.configure(pulse, gap, clock, out),
             CardCommand::Tick(n) => self.run(n, out),
-            CardCommand::Group { interval } => {
-                let verdict = groups::rate(&mut self.lines, self.count, text, interval);
+            CardCommand::Group { interval, places } => {
+                let verdict = group::rate(self.row(), places.as_slice(), interval);
                 put_answer(out, Answer::from(verdict))
             }
             CardCommand::On {

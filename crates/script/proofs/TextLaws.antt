@@ -23,7 +23,7 @@ from_of (On place giving c) = 0
 from_of (Audit place) = 0
 from_of (Text place giving from) = from
 from_of (Tick t) = 0
-from_of (Group p) = 0
+from_of (Group p ps) = 0
 
 -- where there is one
 abbrev from_in : Option CardCommand → ℕ
@@ -129,7 +129,7 @@ module _ (start : ℕ → ℕ) (n : ℕ) (within : (k : ℕ) → start k ≤ n) 
 group-begun : (ws : List (List ℕ)) (n : ℕ) → begun (group ws) ≤ n
 group-begun ws n = one (grouped ws)
   where
-    one : (p : Parsed (ℕ × ArrayVec ℕ)) → begun (after p (λ g. give (Group g.0))) ≤ n
+    one : (p : Parsed (ℕ × ArrayVec ℕ)) → begun (after p (λ g. give (Group g.0 g.1))) ≤ n
     one None = omega arith
     one (Some (g, vs)) = omega arith
 

@@ -1,6 +1,6 @@
 -- The lines that `card` reads.
 use Rattle.std.specs.Prelude.{ℕ, zero, suc, ◌-◌, Bool, List, [], ◌∷◌, length, take}
-use Rattle.std.specs.Prelude.{Option, Some, None, unwrap_or, if◌then◌else◌}
+use Rattle.std.specs.Prelude.{Option, Some, None, if◌then◌else◌}
 use Rattle.arrayvec.specs.ArrayVec.{ArrayVec}
 use Rattle.script.specs.Words.{same, words_of}
 use Rattle.script.specs.Runs.{past_blanks, past_first}
@@ -108,7 +108,7 @@ grouped = do
 abbrev pub group : Reader CardCommand
 group = do
   g ← grouped
-  give (Group g.0)
+  give (Group g.0 g.1)
 
 -- `cfg D G clock`, `tick T`, T as in `run T`, `at I ..`, where the third word begins at start 0, or `group ..`
 abbrev pub card_command : (ℕ → ℕ) → Reader CardCommand
@@ -136,14 +136,3 @@ start_of l m k = beginning l (past_words k m)
 -- the command of a line of a card's script, if it is one
 abbrev pub card_command_of : List ℕ → Option CardCommand
 card_command_of l = whole (card_command (start_of l (past_words 2 l)) (words_of l))
-
--- the places of a group, past the line's first word
-abbrev pub places : Reader (ArrayVec ℕ)
-places = do
-  w ← word
-  g ← grouped
-  give g.1
-
--- the places of a line of a group; none where a line is not read so
-abbrev pub places_in : List ℕ → ArrayVec ℕ
-places_in l = unwrap_or (whole (places (words_of l))) (places_of [])

@@ -1,5 +1,5 @@
 -- The four lines of input of the paper's example. And lines of a card's script, and lines that are bad.
-use Rattle.std.specs.Prelude.{◌≡◌, refl, [], ◌∷◌, map, drop, replicate, Option, Some, None}
+use Rattle.std.specs.Prelude.{◌≡◌, refl, ℕ, List, [], ◌∷◌, map, drop, replicate, Option, Some, None}
 use Prim.Native.String.{String}
 use Rattle.descriptor.specs.declared.TariffPart.TheVariants.{Em, Phased}
 use Rattle.descriptor.specs.declared.BurstPart.TheVariants.{Keep, Start}
@@ -7,7 +7,7 @@ use Rattle.descriptor.specs.declared.Hook.TheVariants.{Stop}
 use Rattle.script.specs.Words.{words_of}
 use Rattle.script.specs.Commands.{command_of}
 use Rattle.script.specs.Readers.{whole}
-use Rattle.script.specs.Cards.{places_of, group, card_command_of, places_in}
+use Rattle.script.specs.Cards.{places_of, group, card_command_of}
 use Rattle.script.specs.declared.Command.{Command}
 use Rattle.script.specs.declared.Command.TheVariants.{Configure, Period, NoPeriod, Describe, OnHook, Run}
 use Rattle.script.specs.declared.Giving.TheVariants.{Take, Ask, Commit}
@@ -120,22 +120,21 @@ pub card-bad :
 unfolding words_of
 card-bad = refl
 
+-- the command of a group and its places
+abbrev group_of : ℕ → List ℕ → Option CardCommand
+group_of p ps = Some (Group p (places_of ps))
+
 -- lines of a group: some places, none, and one that is named twice
 pub card-group :
     map card_of ("group 250 3 1 64" ∷ "group 250" ∷ " group 0  7 7 " ∷ [])
-    ≡ Some (Group 250) ∷ Some (Group 250) ∷ Some (Group 0) ∷ []
+    ≡ group_of 250 (3 ∷ 1 ∷ 64 ∷ []) ∷ group_of 250 [] ∷ group_of 0 (7 ∷ 7 ∷ []) ∷ []
 unfolding words_of
 card-group = refl
 
--- and their places
-pub card-places :
-    map (λ s. places_in (bytes s)) ("group 250 3 1 64" ∷ "group 250" ∷ " group 0  7 7 " ∷ [])
-    ≡ places_of (3 ∷ 1 ∷ 64 ∷ []) ∷ places_of [] ∷ places_of (7 ∷ 7 ∷ []) ∷ []
-unfolding words_of
-card-places = refl
-
 -- 64 places are taken, and 65 are not
-pub card-most : map (λ n. whole (group (replicate n (bytes "7")))) (65 ∷ 66 ∷ []) ≡ Some (Group 7) ∷ None ∷ []
+pub card-most :
+    map (λ n. whole (group (replicate n (bytes "7")))) (65 ∷ 66 ∷ [])
+    ≡ group_of 7 (replicate 64 7) ∷ None ∷ []
 card-most = refl
 
 -- no interval, and a word that is no number

@@ -15,7 +15,6 @@ mod words;
 
 pub use card_lines::read_card;
 pub use commands::read_command;
-pub use groups::read_places;
 pub use phases::read_phase;
 
 // What a line that `meter` reads asks. `phases` is the number of phase lines that follow, 0 where the tariff is not
@@ -50,8 +49,8 @@ pub enum Giving {
 }
 
 // What a line of a card's script asks. Only a descriptor is asked or committed. A text stands from the byte `from` on to
-// the end of the line. `read_places` reads the places of a group.
-#[derive(Clone, Copy, PartialEq, Eq, Debug)]
+// the end of the line.
+#[derive(Drop)]
 pub enum CardCommand {
     Configure {
         pulse: u32,
@@ -72,5 +71,6 @@ pub enum CardCommand {
     Tick(u32),
     Group {
         interval: u32,
+        places: Places,
     },
 }
