@@ -16,11 +16,6 @@ fn put_counters(out: &mut Outlet<Stdout>, audit: Audited) -> io::Result<()> {
     out.write_all(counters_text(audit.cpc, audit.pcslr).as_slice())
 }
 
-// The descriptor that stands as a text in a line of a script, from a byte on.
-fn text_descriptor(text: &[u8], from: usize) -> Descriptor<'_> {
-    Descriptor::Text(text.get(from..).unwrap_or(&[]))
-}
-
 impl Card {
     // Obeys a command on the line at a place. A descriptor may wait for phase lines first.
     fn on(
@@ -51,13 +46,8 @@ impl Card {
         }
     }
 
-    // Obeys a command, which stands in this text. One at a place outside the row is bad.
-    fn obey(
-        &mut self,
-        command: CardCommand,
-        text: &[u8],
-        out: &mut Outlet<Stdout>,
-    ) -> io::Result<()> {
+    // Obeys a command. One at a place outside the row is bad.
+    fn obey(&mut self, command: CardCommand, out: &mut Outlet<Stdout>) -> io::Result<()> {
         match command {
             CardCommand::Configure { pulse, gap, clock } => self.configure(pulse, gap, clock, out),
             CardCommand::Tick(n) => self.run(n, out),
@@ -80,9 +70,9 @@ impl Card {
             CardCommand::Text {
                 place,
                 giving,
-                from,
+                text,
             } => match self.line_at(place) {
-                Some(line) => self.give(place, line, giving, text_descriptor(text, from), out),
+                Some(line) => self.give(place, line, giving, Descriptor::Text(text), out),
                 None => put_answer(out, Answer::Bad),
             },
         }
@@ -114,7 +104,7 @@ impl Program<Stdout> for Card {
             return self.gather(pending, out);
         }
         match script::read_card(text) {
-            Some(command) => self.obey(command, text, out),
+            Some(command) => self.obey(command, out),
             None => put_answer(out, Answer::Bad),
         }
     }

@@ -1,7 +1,7 @@
 // The line of a group: `group P I J ..`.
 ghost use Rattle.std.specs.Prelude.{◌≡◌};
 ghost use Rattle.script.specs.Words.{words_of};
-ghost use Rattle.script.specs.Told.{told};
+ghost use Rattle.script.specs.Told.{told, told_line};
 ghost use Rattle.script.specs.Cards.{grouped, group};
 
 use super::numbers::next_number;
@@ -24,8 +24,8 @@ fn next_places(line: &[u8]) -> Option<((u32, Places), &[u8])>
 }
 
 // Reads what follows `group`: P, and none to 64 places.
-pub(crate) fn next_group(line: &[u8]) -> Option<(CardCommand, &[u8])>
-    ensures { told result ≡ group (words_of line.now) }
+pub(crate) fn next_group(line: &[u8]) -> Option<(CardCommand<'_>, &[u8])>
+    ensures { told_line result ≡ group (words_of line.now) }
 {
     let ((interval, places), line) = next_places(line)?;
     Some((CardCommand::Group { interval, places }, line))

@@ -48,10 +48,9 @@ pub enum Giving {
     Commit(u32),
 }
 
-// What a line of a card's script asks. Only a descriptor is asked or committed. A text stands from the byte `from` on to
-// the end of the line.
+// What a line of a card's script asks. Only a descriptor is asked or committed. A text is the end of the line.
 #[derive(Drop)]
-pub enum CardCommand {
+pub enum CardCommand<'a> {
     Configure {
         pulse: u32,
         gap: u32,
@@ -66,7 +65,7 @@ pub enum CardCommand {
     Text {
         place: u32,
         giving: Giving,
-        from: usize,
+        text: &'a [u8],
     },
     Tick(u32),
     Group {
