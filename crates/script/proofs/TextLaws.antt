@@ -53,10 +53,27 @@ end_first : (l m : List ℕ) → End l m → End l (past_first m)
 end_first l m e =
     end_then l (past_blanks m) (past_first m) (end_then l m (past_blanks m) e (end_run true m)) (end_run false (past_blanks m))
 
--- a text of l: the end of l from one of its words on, which begins with `SG`
-record TextOf (l t : List ℕ) : Type 0 where
-  pub end : End l t
+-- past the first k words of a line
+abbrev pub past_words : ℕ → List ℕ → List ℕ
+past_words zero l = l
+past_words (suc k) l = past_first (past_words k l)
+
+end_words : (k : ℕ) (l : List ℕ) → End l (past_words k l)
+end_words zero l = end_self l
+end_words (suc k) l = end_first l (past_words k l) (end_words k l)
+
+-- t is what stands in the line l from a word on that begins with `SG`, to the end of l
+pub record TextOf (l t : List ℕ) : Type 0 where
+  pub words : ℕ
+  pub from : t ≡ past_blanks (past_words words l)
+  pub stands : drop (length l - length t) l ≡ t
   pub begins : is_text t ≡ true
+  pub shorter : length t ≤ length l
+
+-- m is left of the line l past some words
+record Left (l m : List ℕ) : Type 0 where
+  pub words : ℕ
+  pub past : m ≡ past_words words l
 
 -- the text of a command is one of l, if it has one
 abbrev Texts : List ℕ → CardLine → Type 0
@@ -138,11 +155,17 @@ leading-text (a ∷ b ∷ m) h = one (a == blank) (b == blank) h
     one false false h = h
 
 -- the rest m of the line l is left, and its words are read
-module _ (l m : List ℕ) (e : End l m) where
+module _ (l m : List ℕ) (e : Left l m) where
+  end : End l (past_blanks m)
+  end = end_then l m (past_blanks m) (rw e.past (end_words e.words l)) (end_run true m)
+
   text_at : is_text (first (words_of m)) ≡ true → TextOf l (past_blanks m)
   text_at h =
       record {
-        end = end_then l m (past_blanks m) e (end_run true m);
+        words = e.words;
+        from = ap past_blanks e.past;
+        stands = end.stands;
+        shorter = end.shorter;
         begins = leading-text (past_blanks m) (rw (← first-leading m) h);
       }
 
@@ -153,20 +176,20 @@ module _ (l m : List ℕ) (e : End l m) where
       either l (is_text w) (all (Text place giving (past_blanks m))) _ vs (λ h. text_at h)
       (either l (same w (bytes "sig")) (for_place place giving describe) fail vs (λ h. for_place-sound l place giving describe vs) tt)
 
-  past : End l (past_first m)
-  past = end_first l m e
+  past : Left l (past_first m)
+  past = record { words = suc e.words; past = ap past_first e.past }
 
   next : words_of (past_first m) ≡ rest (words_of m)
   next = other_words m refl
 
-commit-sound : (l m : List ℕ) → End l m → (place : ℕ) → Sound l (commit m place (words_of m))
+commit-sound : (l m : List ℕ) → Left l m → (place : ℕ) → Sound l (commit m place (words_of m))
 commit-sound l m e place = one (number_of (first (words_of m)))
   where
     one : (n : Option ℕ) → Sound l (after (valued n (rest (words_of m))) (λ n. given (Commit n) (past_first m) place))
     one (Some n) = rw (next l m e) at (given-sound l (past_first m) (past l m e) (Commit n) place)
     one None = tt
 
-other-sound : (l m : List ℕ) → End l m → (place : ℕ) → Sound l (other m place (words_of m))
+other-sound : (l m : List ℕ) → Left l m → (place : ℕ) → Sound l (other m place (words_of m))
 other-sound l m e place =
     let w = first (words_of m) in
     let vs = rest (words_of m) in
@@ -179,18 +202,18 @@ other-sound l m e place =
     (either l (same w (bytes "ask")) (given Ask k place) _ vs (λ h. asked)
     (either l (same w (bytes "commit")) (commit k place) fail vs (λ h. committed) tt))))
 
-placed-sound : (l m : List ℕ) → End l m → (place : ℕ) → Sound l (placed m place (words_of m))
+placed-sound : (l m : List ℕ) → Left l m → (place : ℕ) → Sound l (placed m place (words_of m))
 placed-sound l m e place =
     or_sound l (given Take m place (words_of m)) _ (given-sound l m e Take place) (other-sound l m e place)
 
-at-sound : (l m : List ℕ) → End l m → Sound l (at_place m (words_of m))
+at-sound : (l m : List ℕ) → Left l m → Sound l (at_place m (words_of m))
 at-sound l m e = one (number_of (first (words_of m)))
   where
     one : (n : Option ℕ) → Sound l (after (valued n (rest (words_of m))) (λ place. placed (past_first m) place))
     one (Some place) = rw (next l m e) at (placed-sound l (past_first m) (past l m e) place)
     one None = tt
 
--- nor has a group
+-- a group has no text
 group-sound : (l : List ℕ) (ws : List (List ℕ)) → Sound l (group ws)
 group-sound l ws = one (grouped ws)
   where
@@ -202,7 +225,7 @@ command-sound : (l : List ℕ) → Sound l (card_command l (words_of l))
 command-sound l =
     let w = first (words_of l) in
     let vs = rest (words_of l) in
-    let e = end_self l in
+    let e : Left l l = record { words = 0; past = refl } in
     let placed : Sound l (at_place (past_first l) vs) = rw (next l l e) at (at-sound l (past_first l) (past l l e)) in
     either l (same w (bytes "cfg")) (for_row configure) _ vs (λ h. for_row-sound l configure vs)
     (either l (same w (bytes "tick")) (for_row run) _ vs (λ h. for_row-sound l run vs)
@@ -210,13 +233,10 @@ command-sound l =
     (either l (same w (bytes "group")) group fail vs (λ h. group-sound l vs) tt)))
 
 module _ (l : List ℕ) (place : ℕ) (giving : Giving) (t : List ℕ) (e : card_command_of l ≡ Some (Text place giving t)) where
-  text-of : TextOf l t
-  text-of = rw e at (whole-sound l (card_command l (words_of l)) (command-sound l))
+  -- a text is what stands from a word on that begins with `SG`
+  pub text-stands : TextOf l t
+  text-stands = rw e at (whole-sound l (card_command l (words_of l)) (command-sound l))
 
-  -- a text is the end of its line
-  pub text-within : (length t ≤ length l) × (drop (length l - length t) l ≡ t)
-  text-within = let h = text-of in (h.end.shorter, h.end.stands)
-
-  -- and it begins with `SG`
-  pub text-stands : is_text t ≡ true
-  text-stands = let h = text-of in h.begins
+  -- and lies within its line
+  pub text-within : length t ≤ length l
+  text-within = let h = text-stands in h.shorter

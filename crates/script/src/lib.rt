@@ -49,7 +49,7 @@ pub enum Giving {
 }
 
 // What a line of a card's script asks. Only a descriptor is asked or committed. A text is the end of the line.
-#[derive(Drop)]
+#[derive(Clone, PartialEq, Eq, Debug, Drop)]
 pub enum CardCommand<'a> {
     Configure {
         pulse: u32,
