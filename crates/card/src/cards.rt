@@ -38,10 +38,15 @@ impl Card {
         }
     }
 
+    // The row: the lines that there are.
+    pub(crate) fn row(&mut self) -> &mut [Line] {
+        let count = self.count.min(65);
+        &mut self.lines[..count]
+    }
+
     // The line at a place of the row, if there is one.
-    pub(crate) fn line_at(&self, place: u32) -> Option<Line> {
-        let row = &self.lines[..self.count.min(65)];
-        row.get(place as usize).copied()
+    pub(crate) fn line_at(&mut self, place: u32) -> Option<Line> {
+        self.row().get(place as usize).copied()
     }
 
     // One more line at the end of the row, if there is room. A refused configuration adds none.
@@ -70,9 +75,8 @@ impl Card {
         answer: Answered,
         out: &mut Outlet<Stdout>,
     ) -> io::Result<()> {
-        let i = place as usize;
-        if i < self.lines.len() {
-            self.lines[i] = answer.line;
+        if let Some(line) = self.row().get_mut(place as usize) {
+            *line = answer.line;
         }
         put_answer(out, Answer::from(answer.verdict))
     }

@@ -1,6 +1,5 @@
 // What each line of a script does to the card.
 use super::cards::{Card, put_answer};
-use super::groups;
 use super::pending::Pending;
 use descriptor::Descriptor;
 use line::{Audited, Line};
@@ -15,11 +14,6 @@ use std::io::{Stdout, Write};
 // Puts the counters of a line.
 fn put_counters(out: &mut Outlet<Stdout>, audit: Audited) -> io::Result<()> {
     out.write_all(counters_text(audit.cpc, audit.pcslr).as_slice())
-}
-
-// The descriptor that stands as a text in a line of a script, from a byte on.
-fn text_descriptor(text: &[u8], from: usize) -> Descriptor<'_> {
-    Descriptor::Text(text.get(from..).unwrap_or(&[]))
 }
 
 impl Card {
@@ -52,18 +46,13 @@ impl Card {
         }
     }
 
-    // Obeys a command, which stands in this text. One at a place outside the row is bad.
-    fn obey(
-        &mut self,
-        command: CardCommand,
-        text: &[u8],
-        out: &mut Outlet<Stdout>,
-    ) -> io::Result<()> {
+    // Obeys a command. One at a place outside the row is bad.
+    fn obey(&mut self, command: CardCommand, out: &mut Outlet<Stdout>) -> io::Result<()> {
         match command {
             CardCommand::Configure { pulse, gap, clock } => self.configure(pulse, gap, clock, out),
             CardCommand::Tick(n) => self.run(n, out),
-            CardCommand::Group { interval } => {
-                let verdict = groups::rate(&mut self.lines, self.count, text, interval);
+            CardCommand::Group { interval, places } => {
+                let verdict = group::rate(self.row(), places.as_slice(), interval);
                 put_answer(out, Answer::from(verdict))
             }
             CardCommand::On {
@@ -81,9 +70,9 @@ impl Card {
             CardCommand::Text {
                 place,
                 giving,
-                from,
+                text,
             } => match self.line_at(place) {
-                Some(line) => self.give(place, line, giving, text_descriptor(text, from), out),
+                Some(line) => self.give(place, line, giving, Descriptor::Text(text), out),
                 None => put_answer(out, Answer::Bad),
             },
         }
@@ -115,7 +104,7 @@ impl Program<Stdout> for Card {
             return self.gather(pending, out);
         }
         match script::read_card(text) {
-            Some(command) => self.obey(command, text, out),
+            Some(command) => self.obey(command, out),
             None => put_answer(out, Answer::Bad),
         }
     }

@@ -4,7 +4,6 @@
 
 mod cards;
 mod commands;
-mod groups;
 mod pending;
 mod ticks;
 

@@ -17,9 +17,8 @@ fn put_notice(out: &mut Outlet<Stdout>, tick: u32, notice: Notice) -> io::Result
 impl Card {
     // Ticks the row n times, and puts each notice. Where the row is refused, no tick follows.
     pub(crate) fn run(&mut self, n: u32, out: &mut Outlet<Stdout>) -> io::Result<()> {
-        let count = self.count.min(65);
         for _ in 0..n {
-            let ticked = self.dispatcher.tick(&mut self.lines[..count]);
+            let ticked = self.dispatcher.tick(self.row());
             self.dispatcher = ticked.dispatcher;
             match ticked.reply {
                 Err(why) => return put_answer(out, Answer::No(why.number())),

@@ -1,156 +1,21 @@
--- The text of a card's line lies within the line, and it is what stands from one of its words on.
-use Rattle.std.proofs.Common.{◌≡◌, refl, sym, ap, ◌∙◌, ℕ, zero, suc, ◌+◌, ◌-◌, ◌≤◌, Bool, true, false, List, [], ◌∷◌, length, drop, drop-drop, arith}
-use Rattle.std.specs.Prelude.{Option, Some, None, if◌then◌else◌}
+-- The text of a card's line is the end of the line from one of its words on, and it begins with `SG`.
+use Rattle.std.proofs.Common.{◌≡◌, refl, sym, ap, ◌∙◌, ℕ, zero, suc, ◌+◌, ◌-◌, ◌≤◌, Bool, true, false, List, [], ◌∷◌, length, take, drop, drop-drop, arith}
+use Rattle.std.specs.Prelude.{Option, Some, None, ◌==◌, if◌then◌else◌}
 use Rattle.arrayvec.specs.ArrayVec.{ArrayVec}
-use Rattle.script.specs.Words.{same, words_of}
+use Rattle.std.proofs.lemmas.Bool.Decides.{nat_tests}
+use Rattle.script.specs.Words.{blank, same, words_of}
 use Rattle.script.specs.Numbers.{number_of}
 use Rattle.script.specs.Runs.{ends_run, past_run, past_blanks, past_first}
 use Rattle.script.specs.Readers.{Parsed, Reader, after, give, fail, or_else, first, rest, valued, no_word, whole}
 use Rattle.script.specs.Commands.{configure, period, describe, hook, run}
-use Rattle.script.specs.Cards.{of_row, of_place, for_row, for_place, all, is_text, given, commit, other, placed, at_place, grouped, group, card_command, past_words, start_of, card_command_of}
+use Rattle.script.specs.Cards.{CardLine, Add, On, Audit, Text, Tick, Group}
+use Rattle.script.specs.Cards.{of_row, of_place, for_row, for_place, all, is_text, given, commit, other, placed, at_place, grouped, group, card_command, card_command_of}
 use Rattle.script.specs.declared.Command.{Command}
 use Rattle.script.specs.declared.Command.TheVariants.{Configure, Period, NoPeriod, Describe, OnHook, Run}
 use Rattle.script.specs.declared.Giving.{Giving}
 use Rattle.script.specs.declared.Giving.TheVariants.{Take, Ask, Commit}
-use Rattle.script.specs.declared.CardCommand.{CardCommand}
-use Rattle.script.specs.declared.CardCommand.TheVariants.{Configure as Add, On, Audit, Text, Tick, Group}
+use Rattle.script.proofs.WordLaws.{leading, first-leading, other_words}
 use Rattle.printing.specs.Bytes.{bytes}
-
--- where the text of a command begins, 0 where it has none
-abbrev from_of : CardCommand → ℕ
-from_of (Add d g clock) = 0
-from_of (On place giving c) = 0
-from_of (Audit place) = 0
-from_of (Text place giving from) = from
-from_of (Tick t) = 0
-from_of (Group p) = 0
-
--- where there is one
-abbrev from_in : Option CardCommand → ℕ
-from_in None = 0
-from_in (Some c) = from_of c
-
--- and that of what was read
-abbrev begun : Parsed CardCommand → ℕ
-begun None = 0
-begun (Some (c, ws)) = from_of c
-
-whole-begun : (p : Parsed CardCommand) (n : ℕ) → begun p ≤ n → from_in (whole p) ≤ n
-whole-begun None n h = omega arith
-whole-begun (Some (c, ws)) n h = one (no_word ws)
-  where
-    one : (t : Bool) → from_in (if t then Some c else None) ≤ n
-    one true = h
-    one false = omega arith
-
-row-begun : (c : Command) → from_in (of_row c) ≡ 0
-row-begun (Configure d g clock) = refl
-row-begun (Period n) = refl
-row-begun NoPeriod = refl
-row-begun (Describe t k u) = refl
-row-begun (OnHook h) = refl
-row-begun (Run t) = refl
-
--- what `meter` reads has no text, for the row
-for_row-begun : (r : Reader Command) (ws : List (List ℕ)) (n : ℕ) → begun (for_row r ws) ≤ n
-for_row-begun r ws n = at (r ws)
-  where
-    made : (o : Option CardCommand) (vs : List (List ℕ)) → from_in o ≡ 0 → begun (valued o vs) ≤ n
-    made None vs z = omega arith
-    made (Some c) vs z = omega arith
-
-    at : (p : Parsed Command) → begun (after p (λ c. valued (of_row c))) ≤ n
-    at None = omega arith
-    at (Some (c, vs)) = made (of_row c) vs (row-begun c)
-
--- and for the line at a place
-for_place-begun : (place : ℕ) (giving : Giving) (r : Reader Command) (ws : List (List ℕ)) (n : ℕ) → begun (for_place place giving r ws) ≤ n
-for_place-begun place giving r ws n = at (r ws)
-  where
-    at : (p : Parsed Command) → begun (after p (λ c. give (of_place place giving c))) ≤ n
-    at None = omega arith
-    at (Some (c, vs)) = omega arith
-
-either : (t : Bool) (r s : Reader CardCommand) (ws : List (List ℕ)) (n : ℕ) → begun (r ws) ≤ n → begun (s ws) ≤ n
-    → begun ((if t then r else s) ws) ≤ n
-either true r s ws n a b = a
-either false r s ws n a b = b
-
-or_begun : (p q : Parsed CardCommand) (n : ℕ) → begun p ≤ n → begun q ≤ n → begun (or_else p q) ≤ n
-or_begun None q n a b = b
-or_begun (Some r) q n a b = a
-
-given-begun : (giving : Giving) (from place : ℕ) (ws : List (List ℕ)) → begun (given giving from place ws) ≤ from
-given-begun giving from place ws =
-    let w = first ws in
-    let vs = rest ws in
-    let no : begun (fail vs) ≤ from = omega arith in
-    either (is_text w) (all (Text place giving from)) _ vs from (omega arith)
-    (either (same w (bytes "sig")) (for_place place giving describe) fail vs from (for_place-begun place giving describe vs from) no)
-
-commit-begun : (from place : ℕ) (ws : List (List ℕ)) → begun (commit from place ws) ≤ from
-commit-begun from place ws = one (number_of (first ws))
-  where
-    one : (m : Option ℕ) → begun (after (valued m (rest ws)) (λ n. given (Commit n) from place)) ≤ from
-    one (Some n) = given-begun (Commit n) from place (rest ws)
-    one None = omega arith
-
--- no text begins past n where no word does
-module _ (start : ℕ → ℕ) (n : ℕ) (within : (k : ℕ) → start k ≤ n) where
-  other-begun : (place : ℕ) (ws : List (List ℕ)) → begun (other start place ws) ≤ n
-  other-begun place ws =
-      let w = first ws in
-      let vs = rest ws in
-      let no : begun (fail vs) ≤ n = omega arith in
-      let h1 = within 1 in
-      let h2 = within 2 in
-      let ask = given-begun Ask (start 1) place vs in
-      let committed = commit-begun (start 2) place vs in
-      either (same w (bytes "audit")) (give (Audit place)) _ vs n (omega arith)
-      (either (same w (bytes "rp")) (for_place place Take period) _ vs n (for_place-begun place Take period vs n)
-      (either (same w (bytes "hook")) (for_place place Take hook) _ vs n (for_place-begun place Take hook vs n)
-      (either (same w (bytes "ask")) (given Ask (start 1) place) _ vs n (omega arith)
-      (either (same w (bytes "commit")) (commit (start 2) place) fail vs n (omega arith) no))))
-
-  placed-begun : (place : ℕ) (ws : List (List ℕ)) → begun (placed start place ws) ≤ n
-  placed-begun place ws =
-      let h0 = within 0 in
-      let take = given-begun Take (start 0) place ws in
-      or_begun (given Take (start 0) place ws) _ n (omega arith) (other-begun place ws)
-
-  at-begun : (ws : List (List ℕ)) → begun (at_place start ws) ≤ n
-  at-begun ws = one (number_of (first ws))
-    where
-      one : (m : Option ℕ) → begun (after (valued m (rest ws)) (λ place. placed start place)) ≤ n
-      one (Some place) = placed-begun place (rest ws)
-      one None = omega arith
-
--- nor has a group
-group-begun : (ws : List (List ℕ)) (n : ℕ) → begun (group ws) ≤ n
-group-begun ws n = one (grouped ws)
-  where
-    one : (p : Parsed (ℕ × ArrayVec ℕ)) → begun (after p (λ g. give (Group g.0))) ≤ n
-    one None = omega arith
-    one (Some (g, vs)) = omega arith
-
--- a text begins within its line
-pub text-within : (l : List ℕ) (place : ℕ) (giving : Giving) (from : ℕ) → card_command_of l ≡ Some (Text place giving from) → from ≤ length l
-text-within l place giving from e =
-    let n = length l in
-    let start = start_of l (past_words 2 l) in
-    let w = first (words_of l) in
-    let vs = rest (words_of l) in
-    let no : begun (fail vs) ≤ n = omega arith in
-    let within : (k : ℕ) → start k ≤ n = λ k. omega arith in
-    let h : begun (card_command start (words_of l)) ≤ n =
-    either (same w (bytes "cfg")) (for_row configure) _ vs n (for_row-begun configure vs n)
-    (either (same w (bytes "tick")) (for_row run) _ vs n (for_row-begun run vs n)
-    (either (same w (bytes "at")) (at_place start) _ vs n (at-begun start n within vs)
-    (either (same w (bytes "group")) group fail vs n (group-begun vs n) no)))
-    in
-    let q = ap from_in e in
-    let z = whole-begun (card_command start (words_of l)) n h in
-    omega arith
 
 -- m is the end of l
 record End (l m : List ℕ) : Type 0 where
@@ -188,11 +53,190 @@ end_first : (l m : List ℕ) → End l m → End l (past_first m)
 end_first l m e =
     end_then l (past_blanks m) (past_first m) (end_then l m (past_blanks m) e (end_run true m)) (end_run false (past_blanks m))
 
-end_words : (k : ℕ) (l m : List ℕ) → End l m → End l (past_words k m)
-end_words zero l m e = e
-end_words (suc k) l m e = end_words k l (past_first m) (end_first l m e)
+-- past the first k words of a line
+abbrev pub past_words : ℕ → List ℕ → List ℕ
+past_words zero l = l
+past_words (suc k) l = past_first (past_words k l)
 
--- from where a word begins, it and all that follows it stand
-pub text-stands : (k : ℕ) (l : List ℕ) → drop (start_of l l k) l ≡ past_blanks (past_words k l)
-text-stands k l =
-    let m = past_words k l in (end_then l m (past_blanks m) (end_words k l l (end_self l)) (end_run true m)).stands
+end_words : (k : ℕ) (l : List ℕ) → End l (past_words k l)
+end_words zero l = end_self l
+end_words (suc k) l = end_first l (past_words k l) (end_words k l)
+
+-- t is what stands in the line l from a word on that begins with `SG`, to the end of l
+pub record TextOf (l t : List ℕ) : Type 0 where
+  pub words : ℕ
+  pub from : t ≡ past_blanks (past_words words l)
+  pub stands : drop (length l - length t) l ≡ t
+  pub begins : is_text t ≡ true
+  pub shorter : length t ≤ length l
+
+-- m is left of the line l past some words
+record Left (l m : List ℕ) : Type 0 where
+  pub words : ℕ
+  pub past : m ≡ past_words words l
+
+-- the text of a command is one of l, if it has one
+abbrev Texts : List ℕ → CardLine → Type 0
+Texts l (Add d g clock) = Unit {0}
+Texts l (On place giving c) = Unit {0}
+Texts l (Audit place) = Unit {0}
+Texts l (Text place giving t) = TextOf l t
+Texts l (Tick t) = Unit {0}
+Texts l (Group p ps) = Unit {0}
+
+-- where there is one
+abbrev TextsIn : List ℕ → Option CardLine → Type 0
+TextsIn l None = Unit {0}
+TextsIn l (Some c) = Texts l c
+
+-- and that of what was read
+abbrev Sound : List ℕ → Parsed CardLine → Type 0
+Sound l None = Unit {0}
+Sound l (Some (c, ws)) = Texts l c
+
+whole-sound : (l : List ℕ) (p : Parsed CardLine) → Sound l p → TextsIn l (whole p)
+whole-sound l None h = tt
+whole-sound l (Some (c, ws)) h = one (no_word ws)
+  where
+    one : (t : Bool) → TextsIn l (if t then Some c else None)
+    one true = h
+    one false = tt
+
+row-sound : (l : List ℕ) (c : Command) → TextsIn l (of_row c)
+row-sound l (Configure d g clock) = tt
+row-sound l (Period n) = tt
+row-sound l NoPeriod = tt
+row-sound l (Describe t k u) = tt
+row-sound l (OnHook h) = tt
+row-sound l (Run t) = tt
+
+-- what `meter` reads has no text, for the row
+for_row-sound : (l : List ℕ) (r : Reader Command) (ws : List (List ℕ)) → Sound l (for_row r ws)
+for_row-sound l r ws = at (r ws)
+  where
+    made : (o : Option CardLine) (vs : List (List ℕ)) → TextsIn l o → Sound l (valued o vs)
+    made None vs z = tt
+    made (Some c) vs z = z
+
+    at : (p : Parsed Command) → Sound l (after p (λ c. valued (of_row c)))
+    at None = tt
+    at (Some (c, vs)) = made (of_row c) vs (row-sound l c)
+
+-- and for the line at a place
+for_place-sound : (l : List ℕ) (place : ℕ) (giving : Giving) (r : Reader Command) (ws : List (List ℕ)) → Sound l (for_place place giving r ws)
+for_place-sound l place giving r ws = at (r ws)
+  where
+    at : (p : Parsed Command) → Sound l (after p (λ c. give (of_place place giving c)))
+    at None = tt
+    at (Some (c, vs)) = tt
+
+either : (l : List ℕ) (t : Bool) (r s : Reader CardLine) (ws : List (List ℕ)) → (t ≡ true → Sound l (r ws)) → Sound l (s ws)
+    → Sound l ((if t then r else s) ws)
+either l true r s ws a b = a refl
+either l false r s ws a b = b
+
+or_sound : (l : List ℕ) (p q : Parsed CardLine) → Sound l p → Sound l q → Sound l (or_else p q)
+or_sound l None q a b = b
+or_sound l (Some r) q a b = a
+
+-- bytes whose first word begins with `SG` begin with it
+leading-text : (m : List ℕ) → is_text (leading m) ≡ true → is_text m ≡ true
+leading-text [] h = h
+leading-text (a ∷ []) h = one (a == blank) h
+  where
+    one : (t : Bool) → is_text (if t then [] else a ∷ []) ≡ true → is_text (a ∷ []) ≡ true
+    one true h = cc
+    one false h = h
+leading-text (a ∷ b ∷ m) h = one (a == blank) (b == blank) h
+  where
+    one : (t u : Bool) → is_text (if t then [] else a ∷ (if u then [] else b ∷ leading m)) ≡ true → is_text (a ∷ b ∷ m) ≡ true
+    one true u h = cc
+    one false true h = grind (arith, nat_tests)
+    one false false h = h
+
+-- the rest m of the line l is left, and its words are read
+module _ (l m : List ℕ) (e : Left l m) where
+  end : End l (past_blanks m)
+  end = end_then l m (past_blanks m) (rw e.past (end_words e.words l)) (end_run true m)
+
+  text_at : is_text (first (words_of m)) ≡ true → TextOf l (past_blanks m)
+  text_at h =
+      record {
+        words = e.words;
+        from = ap past_blanks e.past;
+        stands = end.stands;
+        shorter = end.shorter;
+        begins = leading-text (past_blanks m) (rw (← first-leading m) h);
+      }
+
+  given-sound : (giving : Giving) (place : ℕ) → Sound l (given giving m place (words_of m))
+  given-sound giving place =
+      let w = first (words_of m) in
+      let vs = rest (words_of m) in
+      either l (is_text w) (all (Text place giving (past_blanks m))) _ vs (λ h. text_at h)
+      (either l (same w (bytes "sig")) (for_place place giving describe) fail vs (λ h. for_place-sound l place giving describe vs) tt)
+
+  past : Left l (past_first m)
+  past = record { words = suc e.words; past = ap past_first e.past }
+
+  next : words_of (past_first m) ≡ rest (words_of m)
+  next = other_words m refl
+
+commit-sound : (l m : List ℕ) → Left l m → (place : ℕ) → Sound l (commit m place (words_of m))
+commit-sound l m e place = one (number_of (first (words_of m)))
+  where
+    one : (n : Option ℕ) → Sound l (after (valued n (rest (words_of m))) (λ n. given (Commit n) (past_first m) place))
+    one (Some n) = rw (next l m e) at (given-sound l (past_first m) (past l m e) (Commit n) place)
+    one None = tt
+
+other-sound : (l m : List ℕ) → Left l m → (place : ℕ) → Sound l (other m place (words_of m))
+other-sound l m e place =
+    let w = first (words_of m) in
+    let vs = rest (words_of m) in
+    let k = past_first m in
+    let asked : Sound l (given Ask k place vs) = rw (next l m e) at (given-sound l k (past l m e) Ask place) in
+    let committed : Sound l (commit k place vs) = rw (next l m e) at (commit-sound l k (past l m e) place) in
+    either l (same w (bytes "audit")) (give (Audit place)) _ vs (λ h. tt)
+    (either l (same w (bytes "rp")) (for_place place Take period) _ vs (λ h. for_place-sound l place Take period vs)
+    (either l (same w (bytes "hook")) (for_place place Take hook) _ vs (λ h. for_place-sound l place Take hook vs)
+    (either l (same w (bytes "ask")) (given Ask k place) _ vs (λ h. asked)
+    (either l (same w (bytes "commit")) (commit k place) fail vs (λ h. committed) tt))))
+
+placed-sound : (l m : List ℕ) → Left l m → (place : ℕ) → Sound l (placed m place (words_of m))
+placed-sound l m e place =
+    or_sound l (given Take m place (words_of m)) _ (given-sound l m e Take place) (other-sound l m e place)
+
+at-sound : (l m : List ℕ) → Left l m → Sound l (at_place m (words_of m))
+at-sound l m e = one (number_of (first (words_of m)))
+  where
+    one : (n : Option ℕ) → Sound l (after (valued n (rest (words_of m))) (λ place. placed (past_first m) place))
+    one (Some place) = rw (next l m e) at (placed-sound l (past_first m) (past l m e) place)
+    one None = tt
+
+-- a group has no text
+group-sound : (l : List ℕ) (ws : List (List ℕ)) → Sound l (group ws)
+group-sound l ws = one (grouped ws)
+  where
+    one : (p : Parsed (ℕ × ArrayVec ℕ)) → Sound l (after p (λ g. give (Group g.0 g.1)))
+    one None = tt
+    one (Some (g, vs)) = tt
+
+command-sound : (l : List ℕ) → Sound l (card_command l (words_of l))
+command-sound l =
+    let w = first (words_of l) in
+    let vs = rest (words_of l) in
+    let e : Left l l = record { words = 0; past = refl } in
+    let placed : Sound l (at_place (past_first l) vs) = rw (next l l e) at (at-sound l (past_first l) (past l l e)) in
+    either l (same w (bytes "cfg")) (for_row configure) _ vs (λ h. for_row-sound l configure vs)
+    (either l (same w (bytes "tick")) (for_row run) _ vs (λ h. for_row-sound l run vs)
+    (either l (same w (bytes "at")) (at_place (past_first l)) _ vs (λ h. placed)
+    (either l (same w (bytes "group")) group fail vs (λ h. group-sound l vs) tt)))
+
+module _ (l : List ℕ) (place : ℕ) (giving : Giving) (t : List ℕ) (e : card_command_of l ≡ Some (Text place giving t)) where
+  -- a text is what stands from a word on that begins with `SG`
+  pub text-stands : TextOf l t
+  text-stands = rw e at (whole-sound l (card_command l (words_of l)) (command-sound l))
+
+  -- and lies within its line
+  pub text-within : length t ≤ length l
+  text-within = let h = text-stands in h.shorter

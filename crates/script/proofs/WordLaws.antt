@@ -10,7 +10,7 @@ use Rattle.script.specs.Readers.{first, rest, no_word}
 use Rattle.script.specs.Runs.{ends_run, past_run, past_blanks, past_word, past_first}
 
 -- the bytes before the first blank
-abbrev leading : List ℕ → List ℕ
+abbrev pub leading : List ℕ → List ℕ
 leading [] = []
 leading (b ∷ l) = if b == blank then [] else b ∷ leading l
 
@@ -55,6 +55,11 @@ unfold_words : (l : List ℕ) → parts (filled (pieces l)) ≡ (leading (past_b
 unfold_words [] = refl
 unfold_words (b ∷ l) = begun (b == blank) b l refl (unfold_words l)
 
+-- the first word is what stands before a blank past the first blanks
+pub first-leading : (l : List ℕ) → first (words_of l) ≡ leading (past_blanks l)
+unfolding words_of
+first-leading l = ap (λ (p : List ℕ × List (List ℕ)). p.0) (unfold_words l)
+
 -- where a run ends: its place, or the line's length
 run_end : (blanks : Bool) (l : List ℕ) → drop (position_or_len (ends_run blanks) l) l ≡ past_run blanks l
 run_end blanks [] = refl
@@ -92,7 +97,7 @@ run_rest blanks l n e = rw (← length-drop n l, take-length) (past_end blanks l
 pub first_word : (l m : List ℕ) {n : ℕ} → m ≡ past_blanks l → n ≡ unwrap_or (position (ends_run false) m) (length m) → take n m ≡ first (words_of l)
 unfolding words_of
 first_word l m blanks e =
-    rw (e, place (ends_run false) m, before_end m, blanks) (sym (ap (λ (p : List ℕ × List (List ℕ)). p.0) (unfold_words l)))
+    rw (e, place (ends_run false) m, before_end m, blanks) (sym (first-leading l))
 
 -- past it stands what is left of the line
 pub left_of : (l m : List ℕ) {n : ℕ} → m ≡ past_blanks l → n ≡ unwrap_or (position (ends_run false) m) (length m) → drop n m ≡ past_first l

@@ -1,5 +1,5 @@
 -- The four lines of input of the paper's example. And lines of a card's script, and lines that are bad.
-use Rattle.std.specs.Prelude.{◌≡◌, refl, [], ◌∷◌, map, drop, replicate, Option, Some, None}
+use Rattle.std.specs.Prelude.{◌≡◌, refl, ℕ, List, [], ◌∷◌, map, replicate, Option, Some, None}
 use Prim.Native.String.{String}
 use Rattle.descriptor.specs.declared.TariffPart.TheVariants.{Em, Phased}
 use Rattle.descriptor.specs.declared.BurstPart.TheVariants.{Keep, Start}
@@ -7,13 +7,11 @@ use Rattle.descriptor.specs.declared.Hook.TheVariants.{Stop}
 use Rattle.script.specs.Words.{words_of}
 use Rattle.script.specs.Commands.{command_of}
 use Rattle.script.specs.Readers.{whole}
-use Rattle.script.specs.Cards.{places_of, group, card_command_of, places_in}
+use Rattle.script.specs.Cards.{CardLine, Add, On, Audit, Text, Tick, Group, places_of, group, card_command_of}
 use Rattle.script.specs.declared.Command.{Command}
 use Rattle.script.specs.declared.Command.TheVariants.{Configure, Period, NoPeriod, Describe, OnHook, Run}
+use Rattle.script.specs.declared.Giving.{Giving}
 use Rattle.script.specs.declared.Giving.TheVariants.{Take, Ask, Commit}
-use Rattle.script.specs.declared.CardCommand.{CardCommand}
-use Rattle.script.specs.declared.CardCommand.TheVariants.{Configure as Add}
-use Rattle.script.specs.declared.CardCommand.TheVariants.{On, Audit, Text, Tick, Group}
 use Rattle.printing.specs.Bytes.{bytes}
 
 -- the command of a line
@@ -41,7 +39,7 @@ unfolding words_of
 bad = refl
 
 -- the command of a line of a card's script
-abbrev card_of : String → Option CardCommand
+abbrev card_of : String → Option CardLine
 card_of s = card_command_of (bytes s)
 
 -- lines of a card's script
@@ -66,25 +64,25 @@ pub card-input :
 unfolding words_of
 card-input = refl
 
--- a text stands from SG on, whatever follows
+-- a text for the line at place 7
+abbrev text_of : Giving → String → Option CardLine
+text_of giving s = Some (Text 7 giving (bytes s))
+
+-- a text stands from SG on, whatever follows, with the blanks at its end
 pub card-text :
     map card_of ("at 7 SG 1" ∷ "  at   7   SGx \t " ∷ "at 7 SG" ∷ [])
-    ≡ Some (Text 7 Take 5) ∷ Some (Text 7 Take 11) ∷ Some (Text 7 Take 5) ∷ []
+    ≡ text_of Take "SG 1" ∷ text_of Take "SGx \t " ∷ text_of Take "SG" ∷ []
 unfolding words_of
 card-text = refl
-
--- with the blanks at its end
-pub card-text-bytes : drop 11 (bytes "  at   7   SGx \t ") ≡ bytes "SGx \t "
-card-text-bytes = refl
 
 -- descriptors that are asked, and that are committed with a ticket
 pub card-asked :
     map card_of
     ("at 7 ask sig ph 2 keep" ∷ "at 7 ask SG 1" ∷ "at 7 commit 12 sig em 0 400 keep" ∷ " at 7  commit 012  SG{} " ∷ [])
     ≡ Some (On 7 Ask (Describe Phased 2 Keep))
-    ∷ Some (Text 7 Ask 9)
+    ∷ text_of Ask "SG 1"
     ∷ Some (On 7 (Commit 12) (Describe (Em 0 400) 0 Keep))
-    ∷ Some (Text 7 (Commit 12) 19)
+    ∷ text_of (Commit 12) "SG{} "
     ∷ []
 unfolding words_of
 card-asked = refl
@@ -120,22 +118,21 @@ pub card-bad :
 unfolding words_of
 card-bad = refl
 
+-- the command of a group and its places
+abbrev group_of : ℕ → List ℕ → Option CardLine
+group_of p ps = Some (Group p (places_of ps))
+
 -- lines of a group: some places, none, and one that is named twice
 pub card-group :
     map card_of ("group 250 3 1 64" ∷ "group 250" ∷ " group 0  7 7 " ∷ [])
-    ≡ Some (Group 250) ∷ Some (Group 250) ∷ Some (Group 0) ∷ []
+    ≡ group_of 250 (3 ∷ 1 ∷ 64 ∷ []) ∷ group_of 250 [] ∷ group_of 0 (7 ∷ 7 ∷ []) ∷ []
 unfolding words_of
 card-group = refl
 
--- and their places
-pub card-places :
-    map (λ s. places_in (bytes s)) ("group 250 3 1 64" ∷ "group 250" ∷ " group 0  7 7 " ∷ [])
-    ≡ places_of (3 ∷ 1 ∷ 64 ∷ []) ∷ places_of [] ∷ places_of (7 ∷ 7 ∷ []) ∷ []
-unfolding words_of
-card-places = refl
-
 -- 64 places are taken, and 65 are not
-pub card-most : map (λ n. whole (group (replicate n (bytes "7")))) (65 ∷ 66 ∷ []) ≡ Some (Group 7) ∷ None ∷ []
+pub card-most :
+    map (λ n. whole (group (replicate n (bytes "7")))) (65 ∷ 66 ∷ [])
+    ≡ group_of 7 (replicate 64 7) ∷ None ∷ []
 card-most = refl
 
 -- no interval, and a word that is no number

@@ -3,7 +3,7 @@ pub mod Words
 pub mod Numbers
 pub mod Readers
 pub mod Runs
-pub mod Told
 pub mod Commands
 pub mod Cards
+pub mod Told
 pub mod Examples

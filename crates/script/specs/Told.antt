@@ -3,8 +3,30 @@ use Rattle.std.specs.Prelude.{List, ℕ, Option, Some, None}
 use Rattle.std.specs.Borrow.{Bor}
 use Rattle.script.specs.Words.{words_of}
 use Rattle.script.specs.Readers.{Parsed}
+use Rattle.script.specs.Cards.{CardLine, Add, On, Audit, Text, Tick, Group}
+use Rattle.script.specs.declared.CardCommand.{CardCommand}
+use Rattle.script.specs.declared.CardCommand.TheVariants as code
 
 -- what was read, with the words of what is left of the line, or nothing
 abbrev pub told : {A : Type 0} → Option (A × Bor (List ℕ)) → Parsed A
 told None = None
 told (Some (a, rest)) = Some (a, words_of rest.now)
+
+-- what a card's command asks, with the bytes of its text as they stand
+abbrev pub line_of : CardCommand → CardLine
+line_of (code.Configure d g clock) = Add d g clock
+line_of (code.On place giving c) = On place giving c
+line_of (code.Audit place) = Audit place
+line_of (code.Text place giving text) = Text place giving text.now
+line_of (code.Tick t) = Tick t
+line_of (code.Group p ps) = Group p ps
+
+-- where there is one
+abbrev pub line_in : Option CardCommand → Option CardLine
+line_in None = None
+line_in (Some c) = Some (line_of c)
+
+-- what was read of a card's line
+abbrev pub told_line : Option (CardCommand × Bor (List ℕ)) → Parsed CardLine
+told_line None = None
+told_line (Some (c, rest)) = Some (line_of c, words_of rest.now)

@@ -1,11 +1,11 @@
 // The line of a group: `group P I J ..`.
 ghost use Rattle.std.specs.Prelude.{◌≡◌};
 ghost use Rattle.script.specs.Words.{words_of};
-ghost use Rattle.script.specs.Told.{told};
-ghost use Rattle.script.specs.Cards.{grouped, group, places_in};
+ghost use Rattle.script.specs.Told.{told, told_line};
+ghost use Rattle.script.specs.Cards.{grouped, group};
 
 use super::numbers::next_number;
-use super::words::{ended, next_word, whole};
+use super::words::ended;
 use super::{CardCommand, Places};
 
 // Reads P and at most 64 places, up to the last word.
@@ -24,20 +24,9 @@ fn next_places(line: &[u8]) -> Option<((u32, Places), &[u8])>
 }
 
 // Reads what follows `group`: P, and none to 64 places.
-pub(crate) fn next_group(line: &[u8]) -> Option<(CardCommand, &[u8])>
-    ensures { told result ≡ group (words_of line.now) }
+pub(crate) fn next_group(line: &[u8]) -> Option<(CardCommand<'_>, &[u8])>
+    ensures { told_line result ≡ group (words_of line.now) }
 {
-    let ((interval, _), line) = next_places(line)?;
-    Some((CardCommand::Group { interval }, line))
-}
-
-// Reads the places of a group's line; none where it is no such line.
-pub fn read_places(line: &[u8]) -> Places
-    ensures { result ≡ places_in line.now }
-{
-    let (_, line) = next_word(line);
-    match whole(next_places(line)) {
-        Some((_, places)) => places,
-        None => Places::new(),
-    }
+    let ((interval, places), line) = next_places(line)?;
+    Some((CardCommand::Group { interval, places }, line))
 }

@@ -15,7 +15,6 @@ mod words;
 
 pub use card_lines::read_card;
 pub use commands::read_command;
-pub use groups::read_places;
 pub use phases::read_phase;
 
 // What a line that `meter` reads asks. `phases` is the number of phase lines that follow, 0 where the tariff is not
@@ -49,10 +48,9 @@ pub enum Giving {
     Commit(u32),
 }
 
-// What a line of a card's script asks. Only a descriptor is asked or committed. A text stands from the byte `from` on to
-// the end of the line. `read_places` reads the places of a group.
-#[derive(Clone, Copy, PartialEq, Eq, Debug)]
-pub enum CardCommand {
+// What a line of a card's script asks. Only a descriptor is asked or committed. A text is the end of the line.
+#[derive(Clone, PartialEq, Eq, Debug, Drop)]
+pub enum CardCommand<'a> {
     Configure {
         pulse: u32,
         gap: u32,
@@ -67,10 +65,11 @@ pub enum CardCommand {
     Text {
         place: u32,
         giving: Giving,
-        from: usize,
+        text: &'a [u8],
     },
     Tick(u32),
     Group {
         interval: u32,
+        places: Places,
     },
 }

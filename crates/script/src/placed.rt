@@ -2,9 +2,8 @@
 ghost use Rattle.std.specs.Prelude.{◌≡◌, Some};
 ghost use Rattle.script.specs.Words.{words_of};
 ghost use Rattle.script.specs.Readers.{give};
-ghost use Rattle.script.specs.Runs.{past_first};
-ghost use Rattle.script.specs.Told.{told};
-ghost use Rattle.script.specs.Cards.{of_place, given, commit, other, placed, at_place, beginning, start_of};
+ghost use Rattle.script.specs.Told.{told_line};
+ghost use Rattle.script.specs.Cards.{of_place, given, commit, other, placed, at_place};
 
 use super::commands::{next_describe, next_hook, next_period};
 use super::numbers::next_number;
@@ -12,8 +11,12 @@ use super::words::{next_word, past_blanks};
 use super::{CardCommand, Command, Giving};
 
 // A command of `meter` that was read, on the line at a place.
-fn of_place(place: u32, giving: Giving, read: (Command, &[u8])) -> (CardCommand, &[u8])
-    ensures { told (Some result) ≡ give (of_place place giving read.entry.0) (words_of read.entry.1.now) }
+fn of_place<'a>(
+    place: u32,
+    giving: Giving,
+    read: (Command, &'a [u8]),
+) -> (CardCommand<'a>, &'a [u8])
+    ensures { told_line (Some result) ≡ give (of_place place giving read.entry.0) (words_of read.entry.1.now) }
 {
     let (command, rest) = read;
     let on = CardCommand::On {
@@ -24,23 +27,17 @@ fn of_place(place: u32, giving: Giving, read: (Command, &[u8])) -> (CardCommand,
     (on, rest)
 }
 
-// Reads a descriptor, which stands in the rest of a line: a text, or `sig`.
+// Reads a descriptor: a text, up to the end of the line, or `sig`.
 #[tactic(auto, unfolding(crate::specs::Words::words_of))]
-fn next_given<'a>(
-    line: &[u8],
-    rest: &'a [u8],
-    place: u32,
-    giving: Giving,
-) -> Option<(CardCommand, &'a [u8])>
-    ensures { told result ≡ given giving (beginning line.now rest.now) place (words_of rest.now) }
+fn next_given(line: &[u8], place: u32, giving: Giving) -> Option<(CardCommand<'_>, &[u8])>
+    ensures { told_line result ≡ given giving line.now place (words_of line.now) }
 {
-    let (word, past) = next_word(rest);
+    let (word, past) = next_word(line);
     if word.starts_with(b"SG") {
-        let from = line.len().saturating_sub(past_blanks(rest).len());
         let text = CardCommand::Text {
             place,
             giving,
-            from,
+            text: past_blanks(line),
         };
         return Some((text, &[]));
     }
@@ -51,39 +48,39 @@ fn next_given<'a>(
 }
 
 // Reads what follows `commit`: the ticket, and a descriptor.
-fn next_commit<'a>(line: &[u8], rest: &'a [u8], place: u32) -> Option<(CardCommand, &'a [u8])>
-    ensures { told result ≡ commit (beginning line.now (past_first rest.now)) place (words_of rest.now) }
+fn next_commit(line: &[u8], place: u32) -> Option<(CardCommand<'_>, &[u8])>
+    ensures { told_line result ≡ commit line.now place (words_of line.now) }
 {
-    let (ticket, rest) = next_number(rest)?;
-    next_given(line, rest, place, Giving::Commit(ticket))
+    let (ticket, rest) = next_number(line)?;
+    next_given(rest, place, Giving::Commit(ticket))
 }
 
 // Reads what follows the place, where that is no descriptor to be taken.
-fn next_other<'a>(line: &[u8], rest: &'a [u8], place: u32) -> Option<(CardCommand, &'a [u8])>
-    ensures { told result ≡ other (start_of line.now rest.now) place (words_of rest.now) }
+fn next_other(line: &[u8], place: u32) -> Option<(CardCommand<'_>, &[u8])>
+    ensures { told_line result ≡ other line.now place (words_of line.now) }
 {
-    let (word, rest) = next_word(rest);
+    let (word, rest) = next_word(line);
     match word {
         b"audit" => Some((CardCommand::Audit(place), rest)),
         b"rp" => Some(of_place(place, Giving::Take, next_period(rest)?)),
         b"hook" => Some(of_place(place, Giving::Take, next_hook(rest)?)),
-        b"ask" => next_given(line, rest, place, Giving::Ask),
-        b"commit" => next_commit(line, rest, place),
+        b"ask" => next_given(rest, place, Giving::Ask),
+        b"commit" => next_commit(rest, place),
         _ => None,
     }
 }
 
 // Reads what follows the place.
-fn next_placed<'a>(line: &[u8], rest: &'a [u8], place: u32) -> Option<(CardCommand, &'a [u8])>
-    ensures { told result ≡ placed (start_of line.now rest.now) place (words_of rest.now) }
+fn next_placed(line: &[u8], place: u32) -> Option<(CardCommand<'_>, &[u8])>
+    ensures { told_line result ≡ placed line.now place (words_of line.now) }
 {
-    next_given(line, rest, place, Giving::Take).or_else(|| next_other(line, rest, place))
+    next_given(line, place, Giving::Take).or_else(|| next_other(line, place))
 }
 
 // Reads what follows `at`: the place, and what is for the line there.
-pub(crate) fn next_at<'a>(line: &[u8], rest: &'a [u8]) -> Option<(CardCommand, &'a [u8])>
-    ensures { told result ≡ at_place (start_of line.now (past_first rest.now)) (words_of rest.now) }
+pub(crate) fn next_at(line: &[u8]) -> Option<(CardCommand<'_>, &[u8])>
+    ensures { told_line result ≡ at_place line.now (words_of line.now) }
 {
-    let (place, rest) = next_number(rest)?;
-    next_placed(line, rest, place)
+    let (place, rest) = next_number(line)?;
+    next_placed(rest, place)
 }
