@@ -16,7 +16,7 @@ pub trait Program<W: Write> {
     ghost reads: { Self → List ℕ → Self → Type 0 } = { λ _ _ _. Unit {0} };
 
     // What the program may make of its output at a line: what is known of it before, and after. Unless the program says
-    // otherwise, known output stays at the front.
+    // otherwise, known output stays at the front. Of what goes to a `Stdout` nothing is known.
     ghost puts: { Self → List ℕ → Option (List ℕ) → Option (List ℕ) → Type 0 } = { λ _ _ old new. Grows old new };
 
     // Reads a line.
