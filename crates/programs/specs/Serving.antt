@@ -1,15 +1,25 @@
 -- The lines of an input that are handed to a program, one after the other, up to the end of the input.
-use Rattle.std.specs.Prelude.{◌≡◌, ◌⊎◌, Bool, true, false, if◌then◌else◌, Option, Some, None, List, [], ℕ, zero, suc}
+use Rattle.std.specs.Prelude.{◌≡◌, ◌⊎◌, ⊤, Bool, true, false, if◌then◌else◌, Option, Some, None, List, [], ℕ, zero, suc}
+use Rattle.std.specs.Io.{StartsWith}
+use Rattle.std.specs.Io.KnownBytes.{Keeps}
 use Rattle.lines.specs.declared.Input.{Input}
 use Rattle.lines.specs.declared.Span.{Span}
 use Rattle.lines.specs.Spans.{begun, part, next_of, over_of}
 use Rattle.lines.specs.Reads.{Onward}
 
--- what was read of an input and not yet taken, the buffer that it lies in, and the program that takes it
+-- known bytes stay at the front
+abbrev pub Grows : Option (List ℕ) → Option (List ℕ) → Type 0
+Grows None new = ⊤
+Grows (Some xs) None = ⊥
+Grows (Some xs) (Some ys) = StartsWith ys xs
+
+-- what was read of an input and not yet taken, the buffer that it lies in, the program that takes it, and what is known
+-- of its output
 pub record Stand (A : Type 0) : Type 0 where
   pub input : Input
   pub buf : List ℕ
   pub program : A
+  pub output : Option (List ℕ)
 
 -- the next line, if there is one
 abbrev pub line_at : {A : Type 0} → Stand A → Option Span
@@ -34,10 +44,21 @@ module _ {A : Type 0} (reads : A → List ℕ → A → Type 0) where
   Handed buf (Some line) p q = reads p (text_of buf line) q
   Handed buf None p q = q ≡ p
 
+-- by what a program may make of its output at a text
+module _ {A : Type 0} (puts : A → List ℕ → Option (List ℕ) → Option (List ℕ) → Type 0) where
+  -- the program puts what it has to say of a line; where there is none yet, known output stays as it is
+  abbrev pub Put : List ℕ → Option Span → A → Option (List ℕ) → Option (List ℕ) → Type 0
+  Put buf (Some line) p old new = puts p (text_of buf line) old new
+  Put buf None p old new = Keeps old new
+
+-- by both
+module _ {A : Type 0} (reads : A → List ℕ → A → Type 0)
+    (puts : A → List ℕ → Option (List ℕ) → Option (List ℕ) → Type 0) where
   -- the next line is handed over, and the input goes on past it; where there is none yet, more is read
   pub record Step (s t : Stand A) : Type 0 where
     pub more : is_over s ≡ false
-    pub handed : Handed s.buf (line_at s) s.program t.program
+    pub handed : Handed reads s.buf (line_at s) s.program t.program
+    pub put : Put puts s.buf (line_at s) s.program s.output t.output
     pub onward : Onward (line_at s) s.buf s.input t.buf t.input
 
   -- n such steps
@@ -45,10 +66,12 @@ module _ {A : Type 0} (reads : A → List ℕ → A → Type 0) where
   Steps zero s t = t ≡ s
   Steps (suc n) s t = (m : Stand A) × Steps n s m × Step m t
 
-  -- from the beginning of an input to its end, or for as many steps as are counted
-  pub record Serves (buf : List ℕ) (old new : A) : Type 0 where
+  -- from the beginning of an input to its end, or for as many steps as are counted; then the program stays as it is,
+  -- and known output stays at the front
+  pub record Serves (buf : List ℕ) (old new : A) (before after : Option (List ℕ)) : Type 0 where
     pub steps : ℕ
     pub last : Stand A
-    pub taken : Steps steps (record { input = begun; buf = buf; program = old }) last
+    pub taken : Steps steps (record { input = begun; buf = buf; program = old; output = before }) last
     pub ends : (is_over last ≡ true) ⊎ (steps ≡ most_steps)
     pub program : last.program ≡ new
+    pub output : Grows last.output after

@@ -1,8 +1,9 @@
 // A program that reads its input line by line, and the loop that hands it each line.
 #![tactic(auto)]
 
-ghost use Rattle.std.specs.Prelude.{◌≡◌, OnOk, List, [], ℕ};
-ghost use Rattle.programs.specs.Serving.{Handed, Serves};
+ghost use Rattle.std.specs.Prelude.{◌≡◌, OnOk, Option, List, [], ℕ};
+ghost use Rattle.outlet.specs.Held.{known_of};
+ghost use Rattle.programs.specs.Serving.{Grows, Handed, Put, Serves};
 
 use lines::{Input, Span};
 use outlet::Outlet;
@@ -14,34 +15,45 @@ pub trait Program<W: Write> {
     // What a line may make of the program.
     ghost reads: { Self → List ℕ → Self → Type 0 } = { λ _ _ _. Unit {0} };
 
+    // What the program may make of its output at a line: what is known of it before, and after. Unless the program says
+    // otherwise, known output stays at the front. Of what goes to a `Stdout` nothing is known.
+    ghost puts: { Self → List ℕ → Option (List ℕ) → Option (List ℕ) → Type 0 } = { λ _ _ old new. Grows old new };
+
     // Reads a line.
     fn read(&mut self, text: &[u8], out: &mut Outlet<W>) -> io::Result<()>
-        ensures { reads self.old text.now self.new };
+        ensures program { reads self.old text.now self.new }
+        ensures output { OnOk result (puts self.old text.now (known_of W.contents out.old)
+            (known_of W.contents out.new)) };
 
     // A line that is too long is read as an empty one.
     fn too_long(&mut self, out: &mut Outlet<W>) -> io::Result<()>
-        ensures { reads self.old [] self.new }
+        ensures program { reads self.old [] self.new }
+        ensures output { OnOk result (puts self.old [] (known_of W.contents out.old)
+            (known_of W.contents out.new)) }
     {
         self.read(b"", out)
     }
 
-    // At the end of the input, all output is written.
+    // At the end of the input. Where it answers Ok, known output stays at the front, and nothing is held back.
     fn close(&self, out: &mut Outlet<W>) -> io::Result<()>
-        ensures { OnOk result (out.new.held.items ≡ []) }
+        ensures sent { OnOk result (out.new.held.items ≡ []) }
+        ensures output { OnOk result (Grows (known_of W.contents out.old) (known_of W.contents out.new)) }
     {
         out.flush()
     }
 }
 
-// Hands over the line that stands at a span of the buffer. Where there is no line yet, all output is written before
-// more is read.
+// Hands over the line that stands at a span of the buffer. Where there is no line yet, the outlet is flushed, and known
+// output stays as it is.
 fn react<W: Write, P: Program<W>>(
     program: &mut P,
     inp: &[u8],
     line: Option<Span>,
     out: &mut Outlet<W>,
 ) -> io::Result<()>
-    ensures { Handed P.reads inp.now line program.old program.new }
+    ensures program { Handed P.reads inp.now line program.old program.new }
+    ensures output { OnOk result (Put P.puts inp.now line program.old (known_of W.contents out.old)
+        (known_of W.contents out.new)) }
 {
     match line {
         Some(line) if line.whole => program.read(lines::text(inp, line), out),
@@ -50,8 +62,9 @@ fn react<W: Write, P: Program<W>>(
     }
 }
 
-// Hands over each line of the input, and closes at its end: where it answers Ok, all output is written. A proved loop has
-// to end, and nothing says that the input does: the steps are counted up to a number that no run reaches.
+// Hands over each line of the input, and closes at its end. Where it answers Ok, nothing is held back, known output
+// changed as the program says of each line, and what was known before the close stays at the front. A proved loop has to
+// end, and nothing says that the input does: the steps are counted up to a number that no run reaches.
 pub fn serve<W: Write, P: Program<W>>(
     program: &mut P,
     from: &mut impl Read,
@@ -59,7 +72,8 @@ pub fn serve<W: Write, P: Program<W>>(
     out: &mut Outlet<W>,
 ) -> io::Result<()>
     ensures sent { OnOk result (out.new.held.items ≡ []) }
-    ensures served { OnOk result (Serves P.reads inp.old program.old program.new) }
+    ensures served { OnOk result (Serves P.reads P.puts inp.old program.old program.new
+        (known_of W.contents out.old) (known_of W.contents out.new)) }
 {
     let mut input = Input::new();
     for _ in 0..u64::MAX {

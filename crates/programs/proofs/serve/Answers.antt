@@ -1,25 +1,27 @@
 -- `serve` meets its contract: each turn of the loop is one step more.
 use Rattle.std.proofs.Common.{refl, inl, inr, arith}
-use Rattle.programs.proofs.StepLaws.{no_step, one_more, where_ok}
+use Rattle.std.proofs.lemmas.Result.{on_ok_weaker}
+use Rattle.programs.proofs.StepLaws.{no_step, one_more}
 use Rattle.programs.proofs.serve.Goals as goal
 use Rattle.programs.proofs.serve.Goals.{else-loop-test, then-loop-test+then-is_over}
 
 pub loop-init : goal.loop-init
-loop-init g c = rw c.new-input.ensures (no_step g.P.Program.reads _)
+loop-init g c = rw c.new-input.ensures (no_step g.P.Program.reads g.P.Program.puts _)
 
 pub loop-preserved : goal.loop-preserved
 loop-preserved g c =
-    one_more g.P.Program.reads c.loop.counter _ _ _ c.loop.invariant
+    one_more g.P.Program.reads g.P.Program.puts c.loop.counter _ _ _ c.loop.invariant
     (record {
       more = rw (c.is_over.ensures, c.next-line.ensures) at c.if-is_over.false;
-      handed = rw c.next-line.ensures at c.in_ok-react.ensures;
+      handed = rw c.next-line.ensures at c.in_ok-react.ensures.program;
+      put = rw c.next-line.ensures at c.in_ok-react.ensures.output;
       onward = rw c.next-line.ensures at c.onward-input.ensures;
     })
 
 pub returns-clause-served : goal.returns-clause-served
 returns-clause-served g c =
-    where_ok c.close.result
-    (record {
+    on_ok_weaker c.close.result
+    (λ grows. record {
       steps = c.loop.counter;
       last = _;
       taken = c.loop.invariant;
@@ -29,4 +31,6 @@ returns-clause-served g c =
             | then-loop-test+then-is_over w ↦ inl (rw (w.is_over.ensures, w.next-line.ensures) at w.if-is_over.true)
           ];
       program = refl;
+      output = grows;
     })
+    c.close.ensures.output

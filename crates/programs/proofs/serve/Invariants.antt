@@ -1,9 +1,13 @@
--- The program stands where as many steps lead as are counted.
+-- The program and its output stand where as many steps lead as are counted.
+use Rattle.outlet.specs.Held.{known_of}
 use Rattle.programs.specs.Serving.{Steps}
 use Rattle.lines.specs.Spans.{begun}
 use Rattle.programs.proofs.serve.Given as goal
 
 abbrev pub invariant-loop : goal.invariant-loop
 invariant-loop g l =
-    Steps g.P.Program.reads l.counter (record { input = begun; buf = l.initial.inp; program = l.initial.program })
-    (record { input = l.input; buf = l.inp; program = l.program })
+    let known = known_of g.W.Write.contents in
+    let i = l.initial in
+    Steps g.P.Program.reads g.P.Program.puts l.counter
+    (record { input = begun; buf = i.inp; program = i.program; output = known i.out })
+    (record { input = l.input; buf = l.inp; program = l.program; output = known l.out })
