@@ -1,5 +1,5 @@
 -- The phases that the lines say are the phases of the seven lists.
-use Rattle.std.proofs.Common.{◌≡◌, refl, sym, ap, subst, ◌∙◌, ℕ, zero, suc, ◌+◌, ◌≤◌, ◌<◌, true, List, [], ◌∷◌, ◌++◌, length, get_or, append_assoc, append-nil, arith}
+use Rattle.std.proofs.Common.{◌≡◌, refl, sym, ap, subst, ◌∙◌, ℕ, zero, suc, ◌+◌, ◌≤◌, ◌<◌, true, List, [], ◌∷◌, ◌++◌, Some, length, get_or, append_assoc, append-nil, arith}
 use Rattle.std.proofs.Math.ListN.{get_or-append}
 use Rattle.std.proofs.Math.Seq.{get_or-append_seam}
 use Rattle.std.proofs.lemmas.Bool.Decides.{nat_tests}
@@ -9,7 +9,7 @@ use Rattle.tariff.specs.declared.Phase.{Phase}
 use Rattle.notes.specs.Noting.{pushed}
 use Rattle.phase_lists.specs.Lists.{phase_of, first_phases, phases_of, one_length}
 use Rattle.phase_lines.specs.declared.Phases.{Phases}
-use Rattle.phase_lines.specs.Gathering.{none_read, with_phase, with_line, lists_of_phases, with_all, AsRead}
+use Rattle.phase_lines.specs.Gathering.{none_read, with_phase, lists_of_phases, with_all, AsRead}
 
 -- a number more, where fewer than nine are kept
 module _ (k : ℕ) (room : k < 9) where
@@ -93,9 +93,20 @@ module _ (s : Phases) (p : Phase) (k : ℕ) (long : Long s k) (room : k < 9) whe
       ∙ ap (λ (q : Phase). before k ++ (q ∷ [])) this
       ∙ ap (λ (j : ℕ). before j ++ (p ∷ [])) (sym long.pri)
 
+-- with these phases
+after : Phases → List Phase → Phases
+after s [] = s
+after s (p ∷ ps) = after (with_phase s p) ps
+
+-- each of their lines is read
+all_read : (ps : List Phase) (s : Phases) → with_all (Some s) ps ≡ Some (after s ps)
+unfolding with_all after
+all_read [] s = refl
+all_read (p ∷ ps) s = all_read ps (with_phase s p)
+
 with_all_lem : (ps : List Phase) (s : Phases) (k : ℕ) → Long s k → k + length ps ≤ 9
-    → phases_of (lists_of_phases (with_all s ps)) ≡ phases_of (lists_of_phases s) ++ ps
-unfolding with_all with_line
+    → phases_of (lists_of_phases (after s ps)) ≡ phases_of (lists_of_phases s) ++ ps
+unfolding after
 with_all_lem [] s k long room = sym (append-nil (phases_of (lists_of_phases s)))
 with_all_lem (p ∷ ps) s k long room =
     let few : k < 9 = omega arith in
@@ -103,12 +114,12 @@ with_all_lem (p ∷ ps) s k long room =
     with_all_lem ps (with_phase s p) (suc k) (one_longer s p k long few) (omega arith)
     ∙ rw (more, append_assoc)
 
-all_long : (ps : List Phase) (s : Phases) (k : ℕ) → Long s k → k + length ps ≤ 9 → Long (with_all s ps) (k + length ps)
-unfolding with_all with_line
+all_long : (ps : List Phase) (s : Phases) (k : ℕ) → Long s k → k + length ps ≤ 9 → Long (after s ps) (k + length ps)
+unfolding after
 all_long [] s k long room = subst (Long s) (omega arith) long
 all_long (p ∷ ps) s k long room =
     let few : k < 9 = omega arith in
-    subst (Long (with_all (with_phase s p) ps)) (omega arith)
+    subst (Long (after (with_phase s p) ps)) (omega arith)
     (all_long ps (with_phase s p) (suc k) (one_longer s p k long few) (omega arith))
 
 as_long : (s : Phases) (k : ℕ) → Long s k → one_length (lists_of_phases s) ≡ true
@@ -119,9 +130,11 @@ none-long : Long none_read 0
 none-long = record { pri = refl; pcx = refl; repx = refl; pcn = refl; repn = refl; ci = refl; pd = refl }
 
 pub as_read : AsRead
-unfolding with_all first_phases
+unfolding first_phases
 as_read ps room =
     let full : 0 + length ps ≤ 9 = omega arith in (
-      as_long (with_all none_read ps) (0 + length ps) (all_long ps none_read 0 none-long full),
+      after none_read ps,
+      all_read ps none_read,
+      as_long (after none_read ps) (0 + length ps) (all_long ps none_read 0 none-long full),
       with_all_lem ps none_read 0 none-long full,
     )

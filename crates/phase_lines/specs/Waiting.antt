@@ -1,5 +1,6 @@
 -- A descriptor that waits for its phase lines, and what it means once they have come.
-use Rattle.std.specs.Prelude.{ℕ, ◌-◌, Option, Some, None, if◌then◌else◌}
+use Rattle.std.specs.Prelude.{ℕ, ◌-◌, Option, Some, None}
+use Rattle.std.specs.Option.{option_map}
 use Rattle.tariff.specs.declared.Phase.{Phase}
 use Rattle.descriptor.specs.declared.BurstPart.{BurstPart}
 use Rattle.descriptor.specs.declared.TariffPart.TheVariants.{Phased}
@@ -11,7 +12,7 @@ use Rattle.phase_lines.specs.Gathering.{none_read, with_line, lists_of_phases}
 
 -- before the first of k lines
 abbrev pub waiting_for : ℕ → BurstPart → Waiting
-waiting_for k u = record { missing = k; burst = u; phases = none_read }
+waiting_for k u = record { missing = k; burst = u; phases = Some none_read }
 
 -- with one line more, so that one fewer is missing
 abbrev pub waiting_with : Waiting → Option Phase → Waiting
@@ -19,7 +20,7 @@ waiting_with w p = record { missing = w.missing - 1; burst = w.burst; phases = w
 
 -- what it means by the lines that have come; nothing where one of them was bad
 abbrev pub meaning_of : Waiting → Option Reading
-meaning_of w = if w.phases.bad then None else Some (descriptor Phased (lists_of_phases w.phases) w.burst)
+meaning_of w = option_map (λ s. descriptor Phased (lists_of_phases s) w.burst) w.phases
 
 -- what a descriptor means, where there is one
 abbrev pub meant_in : Option Descriptor → Option Reading

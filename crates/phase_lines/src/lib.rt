@@ -5,7 +5,7 @@ ghost use Rattle.std.specs.Prelude.{◌≡◌};
 ghost use Rattle.grammar.specs.Meaning.{descriptor};
 ghost use Rattle.line.specs.Lines.{meant_by};
 ghost use Rattle.phase_lists.specs.Lists.{lists_in};
-ghost use Rattle.phase_lines.specs.Gathering.{none_read, with_phase, with_line, lists_of_phases};
+ghost use Rattle.phase_lines.specs.Gathering.{none_read, with_phase, lists_of_phases};
 
 mod waiting;
 
@@ -15,11 +15,10 @@ use phase_lists::PhaseLists;
 use tariff::Phase;
 pub use waiting::Waiting;
 
-// Whether a line was bad, and the numbers of the first nine phases that were read, by name.
-// Stays: seven lists and no list of phases, since a descriptor lends seven; a bad phase line leaves those before it.
+// The numbers of the first nine phases that were read, by name.
+// Stays: seven lists and no list of phases, since a descriptor lends seven.
 #[derive(Default, Drop)]
 pub struct Phases {
-    pub bad: bool,
     pub pri: Values,
     pub pcx: Values,
     pub repx: Values,
@@ -38,7 +37,7 @@ impl Phases {
     }
 
     // With one more phase.
-    fn with_phase(mut self, p: Phase) -> Phases
+    pub fn with(mut self, p: Phase) -> Phases
         ensures { result ≡ with_phase self p }
     {
         self.pri.push(p.pri);
@@ -49,17 +48,6 @@ impl Phases {
         self.ci.push(p.ci);
         self.pd.push(p.pd);
         self
-    }
-
-    // With one more phase line, which may be bad.
-    #[tactic(auto, unfolding(crate::specs::Gathering::with_line))]
-    pub fn with(self, phase: Option<Phase>) -> Phases
-        ensures { result ≡ with_line self phase }
-    {
-        match phase {
-            Some(p) => self.with_phase(p),
-            None => Phases { bad: true, ..self },
-        }
     }
 
     // The seven lists, with the phases that were read.

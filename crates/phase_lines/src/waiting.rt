@@ -6,12 +6,12 @@ use super::Phases;
 use descriptor::{BurstPart, Descriptor, TariffPart};
 use tariff::Phase;
 
-// How many phase lines are missing, the burst part, and the phases that were read.
+// How many phase lines are missing, the burst part, and the phases that were read, unless a line was bad.
 #[derive(Drop)]
 pub struct Waiting {
     pub missing: u32,
     pub burst: BurstPart,
-    pub phases: Phases,
+    pub phases: Option<Phases>,
 }
 
 impl Waiting {
@@ -22,7 +22,7 @@ impl Waiting {
         Waiting {
             missing,
             burst,
-            phases: Phases::new(),
+            phases: Some(Phases::new()),
         }
     }
 
@@ -32,7 +32,7 @@ impl Waiting {
     {
         Waiting {
             missing: self.missing.saturating_sub(1),
-            phases: self.phases.with(phase),
+            phases: self.phases.zip(phase).map(|(read, p)| read.with(p)),
             ..self
         }
     }
@@ -41,9 +41,7 @@ impl Waiting {
     pub fn descriptor(&self) -> Option<Descriptor<'_>>
         ensures { meant_in result ≡ meaning_of self.now }
     {
-        if self.phases.bad {
-            return None;
-        }
-        Some(self.phases.descriptor(TariffPart::Phased, self.burst))
+        let read = self.phases.as_ref()?;
+        Some(read.descriptor(TariffPart::Phased, self.burst))
     }
 }
