@@ -12,17 +12,11 @@ use super::words::next_word;
 pub(crate) fn number_in(word: &[u8]) -> Option<u32>
     ensures { result ≡ number_of word.now }
 {
-    if word.is_empty() {
+    // `parse` would take a sign.
+    if word.starts_with(b"+") {
         return None;
     }
-    let mut value: u32 = 0;
-    for b in word {
-        if !b.is_ascii_digit() {
-            return None;
-        }
-        value = value.checked_mul(10)?.checked_add(u32::from(*b - b'0'))?;
-    }
-    Some(value)
+    std::str::from_utf8(word).ok()?.parse::<u32>().ok()
 }
 
 // Reads a number.
