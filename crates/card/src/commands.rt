@@ -59,7 +59,7 @@ impl Card {
                 place,
                 giving,
                 command,
-            } => match self.line_at(place) {
+            } => match self.line_at(place).copied() {
                 Some(line) => self.on(place, line, giving, command, out),
                 None => put_answer(out, Answer::Bad),
             },
@@ -71,7 +71,7 @@ impl Card {
                 place,
                 giving,
                 text,
-            } => match self.line_at(place) {
+            } => match self.line_at(place).copied() {
                 Some(line) => self.give(place, line, giving, Descriptor::Text(text), out),
                 None => put_answer(out, Answer::Bad),
             },
@@ -89,7 +89,7 @@ impl Card {
             giving,
             waiting,
         } = pending;
-        match (self.line_at(place), waiting.descriptor()) {
+        match (self.line_at(place).copied(), waiting.descriptor()) {
             (Some(line), Some(given)) => self.give(place, line, giving, given, out),
             _ => put_answer(out, Answer::Bad),
         }
