@@ -18,6 +18,7 @@ fn put_counters(out: &mut Outlet<Stdout>, audit: Audited) -> io::Result<()> {
 
 impl Card {
     // Obeys a command on the line at a place. A descriptor may wait for phase lines first.
+    // Stays: arms as in meter, which has no place and no way of giving; a shared function needs a contract for them.
     fn on(
         &mut self,
         place: u32,
@@ -79,6 +80,7 @@ impl Card {
     }
 
     // Obeys a descriptor that waits, once its phase lines have come.
+    // Stays: steps as in meter, where no place and no way of giving stand beside what waits.
     fn gather(&mut self, pending: Pending, out: &mut Outlet<Stdout>) -> io::Result<()> {
         if pending.waiting.missing > 0 {
             self.pending = Some(pending);
