@@ -45,8 +45,9 @@ impl Card {
     }
 
     // The line at a place of the row, if there is one.
-    pub(crate) fn line_at(&mut self, place: u32) -> Option<Line> {
-        self.row().get(place as usize).copied()
+    pub(crate) fn line_at(&mut self, place: u32) -> Option<&mut Line> {
+        let place = usize::try_from(place).ok()?;
+        self.row().get_mut(place)
     }
 
     // One more line at the end of the row, if there is room. A refused configuration adds none.
@@ -75,7 +76,7 @@ impl Card {
         answer: Answered,
         out: &mut Outlet<Stdout>,
     ) -> io::Result<()> {
-        if let Some(line) = self.row().get_mut(place as usize) {
+        if let Some(line) = self.line_at(place) {
             *line = answer.line;
         }
         put_answer(out, Answer::from(answer.verdict))

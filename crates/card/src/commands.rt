@@ -18,6 +18,7 @@ fn put_counters(out: &mut Outlet<Stdout>, audit: Audited) -> io::Result<()> {
 
 impl Card {
     // Obeys a command on the line at a place. A descriptor may wait for phase lines first.
+    // Stays: arms as in meter, which has no place and no way of giving; a shared function needs a contract for them.
     fn on(
         &mut self,
         place: u32,
@@ -59,7 +60,7 @@ impl Card {
                 place,
                 giving,
                 command,
-            } => match self.line_at(place) {
+            } => match self.line_at(place).copied() {
                 Some(line) => self.on(place, line, giving, command, out),
                 None => put_answer(out, Answer::Bad),
             },
@@ -71,7 +72,7 @@ impl Card {
                 place,
                 giving,
                 text,
-            } => match self.line_at(place) {
+            } => match self.line_at(place).copied() {
                 Some(line) => self.give(place, line, giving, Descriptor::Text(text), out),
                 None => put_answer(out, Answer::Bad),
             },
@@ -79,6 +80,7 @@ impl Card {
     }
 
     // Obeys a descriptor that waits, once its phase lines have come.
+    // Stays: steps as in meter, where no place and no way of giving stand beside what waits.
     fn gather(&mut self, pending: Pending, out: &mut Outlet<Stdout>) -> io::Result<()> {
         if pending.waiting.missing > 0 {
             self.pending = Some(pending);
@@ -89,7 +91,7 @@ impl Card {
             giving,
             waiting,
         } = pending;
-        match (self.line_at(place), waiting.descriptor()) {
+        match (self.line_at(place).copied(), waiting.descriptor()) {
             (Some(line), Some(given)) => self.give(place, line, giving, given, out),
             _ => put_answer(out, Answer::Bad),
         }

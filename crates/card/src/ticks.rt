@@ -8,7 +8,7 @@ use std::io::{Stdout, Write};
 
 // Puts the notice of a tick.
 fn put_notice(out: &mut Outlet<Stdout>, tick: u32, notice: Notice) -> io::Result<()> {
-    let place = notice.place.min(65) as u32;
+    let place = u32::try_from(notice.place).unwrap_or(u32::MAX);
     let told = notice.told;
     let text = notice_text(tick, place, told.tariff, told.burst, told.reports);
     out.write_all(text.as_slice())

@@ -2,7 +2,7 @@
 #![tactic(auto)]
 
 ghost use Rattle.std.specs.Prelude.{◌≡◌};
-ghost use Rattle.lent_ticks.specs.Runs.{after_ticks, row_after, ticked_all};
+ghost use Rattle.lent_ticks.specs.Runs.{repeated, after_ticks, row_after, ticked_all};
 
 use descriptor::{BurstPart, Descriptor, TariffPart};
 use line::Line;
@@ -14,14 +14,25 @@ const TICKS: u32 = 7200000;
 
 const ROW_TICKS: u32 = 112500;
 
-// A line after n ticks, each of which moves it on where it lies.
-fn ticked(mut line: Line, n: u32) -> Line
-    ensures { result ≡ after_ticks n line }
+// A value after n steps, each of which moves it on where it lies.
+fn stepped<T, F: Fn(&mut T)>(mut value: T, n: u32, step: F) -> T
+    requires { F.IsAlwaysCallable step }
+    ensures { (once : T → T) → ((x : _) (y : _) → F.post step x tt y → y.now ≡ once x.now) →
+        result ≡ repeated once n value }
 {
     for _ in 0..n {
-        lent::tick_in_place(&mut line);
+        step(&mut value);
     }
-    line
+    value
+}
+
+// A line after n ticks, each of which moves it on where it lies.
+fn ticked(line: Line, n: u32) -> Line
+    ensures { result ≡ after_ticks n line }
+{
+    stepped(line, n, |line| {
+        lent::tick_in_place(line);
+    })
 }
 
 // One tick of each line of a lent row, in order.
@@ -34,23 +45,17 @@ fn tick_row(row: &mut [Line])
 }
 
 // A row of 64 lines after n ticks, each of which moves every line on where it lies.
-fn row_ticked(mut row: [Line; 64], n: u32) -> [Line; 64]
+fn row_ticked(row: [Line; 64], n: u32) -> [Line; 64]
     ensures { result ≡ row_after n row }
 {
-    for _ in 0..n {
-        tick_row(&mut row);
-    }
-    row
+    stepped(row, n, |row| tick_row(row))
 }
 
-// The same by value.
-fn valued(mut line: Line, n: u32) -> Line
+// A line after n ticks by value.
+fn valued(line: Line, n: u32) -> Line
     ensures { result ≡ after_ticks n line }
 {
-    for _ in 0..n {
-        line = line.tick().line;
-    }
-    line
+    stepped(line, n, |line| *line = line.tick().line)
 }
 
 // A line with this descriptor, of the three phases that the plain program's case has.

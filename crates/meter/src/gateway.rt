@@ -92,6 +92,7 @@ impl Gateway {
     }
 
     // Obeys a command on the line. A descriptor may wait for phase lines first.
+    // Stays: arms as in card, which has a place and a way of giving beside; a shared function needs a contract for them.
     fn on(&mut self, line: Line, command: Command, out: &mut Outlet<Stdout>) -> io::Result<()> {
         match command {
             Command::Configure { pulse, gap, clock } => self.configure(pulse, gap, clock, out),
@@ -133,6 +134,7 @@ impl Gateway {
     }
 
     // Obeys a descriptor that waits, once its phase lines have come.
+    // Stays: steps as in card, which has a place and a way of giving beside what waits.
     fn gather(&mut self, waiting: Waiting, out: &mut Outlet<Stdout>) -> io::Result<()> {
         if waiting.missing > 0 {
             self.waiting = Some(waiting);
