@@ -76,6 +76,7 @@ impl Burst {
     }
 }
 
+// Whether a burst runs.
 pub fn is_running(burst: Option<Burst>) -> bool
     ensures { result ≡ is_running burst }
 {
@@ -89,8 +90,8 @@ pub fn owed(burst: Option<Burst>) -> u32
     burst.map_or(0, |b| b.owed)
 }
 
-// Whether a burst runs of which a pulse is due.
-pub fn is_due(burst: Option<Burst>) -> bool
+// Whether a burst runs, and is due.
+pub fn any_due(burst: Option<Burst>) -> bool
     ensures { result ≡ any_due burst }
 {
     burst.is_some_and(Burst::is_due)

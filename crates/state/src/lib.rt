@@ -3,11 +3,12 @@
 
 mod counting;
 mod parts;
+mod pulses;
 mod quiet;
 
 use answers::Tick;
 use burst::Burst;
-use tariff::Tariff;
+use tariff::Timed;
 
 // The pulses applied, the pulses since the last report, and the report period, if one is set.
 #[derive(Clone, Copy, PartialEq, Eq, Debug, Default)]
@@ -24,14 +25,13 @@ pub struct Count {
     pub report: bool,
 }
 
-// All that a tick changes: the ticks to the next slot, or to the completion of a tariff that is ending; the clock; the
-// ticks since the last front, held at the spacing; what runs; the counters.
+// All that a tick changes: the tariff, the clock, the ticks since the last front, held at the spacing, the burst, if one
+// runs, and the counters.
 #[derive(Clone, Copy, PartialEq, Eq, Debug)]
 pub struct State {
-    pub wait: u64,
+    pub timed: Timed,
     pub clock: u32,
     pub since: u32,
-    pub tariff: Tariff,
     pub burst: Option<Burst>,
     pub counters: Counters,
 }

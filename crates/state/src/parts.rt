@@ -4,21 +4,21 @@ ghost use Rattle.state.specs.States.{with_tariff, with_burst, stopped, with_rate
 
 use super::{Counters, State};
 use burst::Burst;
-use tariff::Tariff;
+use tariff::Timed;
 
 impl State {
-    // Another tariff, whose next slot is `wait` ticks away, and these counters.
-    pub fn with_tariff(self, wait: u64, tariff: Tariff, counters: Counters) -> State
-        ensures { result ≡ with_tariff self wait tariff counters }
+    // Another tariff, and these counters.
+    pub fn with_tariff(self, timed: Timed, counters: Counters) -> State
+        ensures { result ≡ with_tariff self timed counters }
     {
         State {
-            wait,
-            tariff,
+            timed,
             counters,
             ..self
         }
     }
 
+    // Another burst, or none.
     pub fn with_burst(self, burst: Option<Burst>) -> State
         ensures { result ≡ with_burst self burst }
     {
@@ -29,14 +29,18 @@ impl State {
     pub fn stopped(self) -> State
         ensures { result ≡ stopped self }
     {
-        self.with_tariff(0, Tariff::Idle, self.counters)
+        self.with_tariff(Timed::default(), self.counters)
     }
 
     // A rate: the next slot stays.
     pub fn rated(self, interval: u32) -> State
         ensures { result ≡ with_rate self interval }
     {
-        self.with_tariff(self.wait, self.tariff.rate(interval), self.counters)
+        let timed = Timed {
+            tariff: self.timed.tariff.rate(interval),
+            ..self.timed
+        };
+        self.with_tariff(timed, self.counters)
     }
 
     // The ticks to the origin of a fresh tariff, on a line of this spacing.

@@ -11,9 +11,8 @@ impl State {
         ensures { result ≡ quiet_of pulse spacing self }
     {
         let since = burst::held_more(spacing, self.since);
-        let waits = 1 < self.wait || self.tariff.is_idle();
-        let ends = self.since < pulse && pulse <= since;
-        waits && !ends && burst::is_quiet(self.burst, pulse, spacing <= since)
+        let waits = 1 < self.timed.wait || self.timed.tariff.is_idle();
+        waits && !self.ends(pulse, since) && burst::is_quiet(self.burst, pulse, spacing <= since)
     }
 
     // A quiet tick.
@@ -21,7 +20,7 @@ impl State {
     pub fn tick_quietly(&mut self, spacing: u32)
         ensures { self.new ≡ waited_of spacing self.old }
     {
-        self.wait = self.wait.saturating_sub(1);
+        self.timed.wait = self.timed.wait.saturating_sub(1);
         self.clock = self.clock.wrapping_add(1);
         self.since = burst::held_more(spacing, self.since);
         if let Some(burst) = &mut self.burst {

@@ -4,14 +4,16 @@ use Rattle.fractions.specs.Answers.{Result, refused, given}
 use Rattle.pulse_map.specs.Pulses.{pulses_of}
 use Rattle.pulse_map.specs.Map.{Entry}
 use Rattle.pulse_map.specs.Answers.{element_answer}
-use Rattle.tariff.specs.Tariffs.{phase_at}
+use Rattle.tariff.specs.Tariffs.{phase_at, position, phase_start, timed}
+use Rattle.tariff.specs.declared.Em.{Em}
 use Rattle.tariff.specs.declared.Phase.{Phase}
+use Rattle.tariff.specs.declared.Position.{Position}
 use Rattle.tariff.specs.declared.Schedule.{Schedule}
 use Rattle.tariff.specs.declared.Slot.{Slot}
 use Rattle.tariff.specs.declared.Slot.TheVariants.{Empty, Pulse}
 use Rattle.tariff.specs.declared.Tariff.{Tariff}
 use Rattle.tariff.specs.declared.Tariff.TheVariants.{Idle, Endless, Counted, Phased, Ending}
-use Rattle.steps.specs.declared.Waiting.{Waiting}
+use Rattle.tariff.specs.declared.Timed.{Timed}
 use Rattle.steps.specs.declared.Stepped.{Stepped}
 
 -- the pulses of a charge interval with map entry e; none where the map has no such entry
@@ -30,42 +32,42 @@ next_entry p e = cond (ltb (e + 1) (p.repx + p.repn)) (e + 1) 0
 unfoldable pub distance_after : ℕ → ℕ → ℕ → ℕ
 distance_after C P k = (k + 1) * P / C - k * P / C
 
-abbrev pub waiting : Tariff → ℕ → Waiting
-waiting t w = record { tariff = t; wait = w }
-
-abbrev pub stepped : Waiting → Option Slot → Bool → Stepped
-stepped x s done = record { tariff = x.tariff; wait = x.wait; slot = s; complete = done }
+abbrev pub stepped : Timed → Option Slot → Bool → Stepped
+stepped x s done = record { timed = x; slot = s; complete = done }
 
 -- after slot k of an em with C > 0, whose last pulse ends D ticks later
-unfoldable pub after_counted : ℕ → ℕ → ℕ → ℕ → Waiting
-after_counted D C P k = cond (ltb (k + 1) C) (waiting (Counted C P (k + 1)) (distance_after C P k)) (waiting Ending D)
+unfoldable pub after_counted : ℕ → Em → ℕ → Timed
+after_counted D m k =
+    cond (ltb (k + 1) m.count) (timed (Counted m (k + 1)) (distance_after m.count m.period k)) (timed Ending D)
 
 -- after the last interval of phase i, which ends w ticks after its last slot: the next phase, if there is one
-unfoldable pub after_phase : Schedule → ℕ → ℕ → Waiting
+unfoldable pub after_phase : Schedule → ℕ → ℕ → Timed
 after_phase ps i w =
-    cond (ltb (i + 1) ps.count) (waiting (Phased (i + 1) 0 (phase_at ps.phases (i + 1)).pd 0) w) (waiting Ending w)
+    cond (ltb (i + 1) ps.count) (timed (Phased (phase_start (i + 1) (phase_at ps.phases (i + 1)))) w) (timed Ending w)
 
--- after the last slot, j, of an interval of phase i: the next interval of the phase, if there is one
-unfoldable pub after_interval : Schedule → ℕ → ℕ → ℕ → ℕ → Phase → Waiting
-after_interval ps i e l j p =
-    cond (eqb l 0 || ltb p.ci l) (waiting (Phased i (next_entry p e) (l - p.ci) 0) (1000 * p.ci - j * p.pri))
-    (after_phase ps i (1000 * l - j * p.pri))
+-- after the last slot of an interval of a phase, which is p: the next interval of the phase, if there is one
+unfoldable pub after_interval : Schedule → Position → Phase → Timed
+after_interval ps q p =
+    cond (eqb q.left 0 || ltb p.ci q.left)
+    (timed (Phased (position q.phase (next_entry p q.entry) (q.left - p.ci) 0)) (1000 * p.ci - q.slot * p.pri))
+    (after_phase ps q.phase (1000 * q.left - q.slot * p.pri))
 
--- after slot j of an interval of m pulses
-unfoldable pub after_phased : Schedule → ℕ → ℕ → ℕ → ℕ → Phase → ℕ → Waiting
-after_phased ps i e l j p m =
-    cond (ltb (j + 1) m) (waiting (Phased i e l (j + 1)) p.pri) (after_interval ps i e l j p)
+-- after a slot of an interval of m pulses
+unfoldable pub after_phased : Schedule → Position → Phase → ℕ → Timed
+after_phased ps q p m =
+    cond (ltb (q.slot + 1) m) (timed (Phased (position q.phase q.entry q.left (q.slot + 1))) p.pri)
+    (after_interval ps q p)
 
 -- what is due when the wait is over: a slot, or the completion
 unfoldable pub due_of : ℕ → Schedule → Tariff → Stepped
-due_of D ps Idle = stepped (waiting Idle 0) None false
-due_of D ps (Endless P) = stepped (waiting (Endless P) P) (Some Pulse) false
-due_of D ps (Counted C P k) = stepped (after_counted D C P k) (Some Pulse) false
-due_of D ps (Phased i e l j) =
-    let m = pulses_at (phase_at ps.phases i) e in
-    stepped (after_phased ps i e l j (phase_at ps.phases i) m) (Some (cond (eqb m 0) Empty Pulse)) false
-due_of D ps Ending = stepped (waiting Idle 0) None true
+due_of D ps Idle = stepped (timed Idle 0) None false
+due_of D ps (Endless P) = stepped (timed (Endless P) P) (Some Pulse) false
+due_of D ps (Counted m k) = stepped (after_counted D m k) (Some Pulse) false
+due_of D ps (Phased q) =
+    let m = pulses_at (phase_at ps.phases q.phase) q.entry in
+    stepped (after_phased ps q (phase_at ps.phases q.phase) m) (Some (cond (eqb m 0) Empty Pulse)) false
+due_of D ps Ending = stepped (timed Idle 0) None true
 
 -- one tick: one less to wait, or what is due
-unfoldable pub step_of : ℕ → Schedule → Tariff → ℕ → Stepped
-step_of D ps t w = cond (ltb 1 w) (stepped (waiting t (w - 1)) None false) (due_of D ps t)
+unfoldable pub step_of : ℕ → Schedule → Timed → Stepped
+step_of D ps x = cond (ltb 1 x.wait) (stepped (timed x.tariff (x.wait - 1)) None false) (due_of D ps x.tariff)

@@ -1,45 +1,36 @@
-// The tariff after a slot, and the ticks to what comes next.
+// A tariff after a slot, with the ticks to what comes next.
 ghost use Rattle.std.specs.Prelude.{◌≡◌, ◌-◌, ◌*◌, ◌<◌};
 ghost use Rattle.steps.specs.Steps.{distance_after, after_counted, after_phase, after_interval, after_phased};
 
-use super::{Waiting, intervals};
-use tariff::{Phase, Schedule, Tariff};
-
-// Where a phased tariff with these phases stands: before slot `pulse` of a charge interval of a phase, as in its Tariff.
-#[derive(Clone, Copy)]
-pub(crate) struct Position {
-    pub schedule: Schedule,
-    pub phase: u32,
-    pub entry: u64,
-    pub left: u32,
-    pub pulse: u32,
-}
+use super::intervals;
+use tariff::{Em, Phase, Position, Schedule, Tariff, Timed};
 
 // The ticks from slot k of an em with C > 0 to slot k + 1, each multiplied before it is divided, so that none drifts.
 #[tactic(auto, unfolding(crate::specs::Steps::distance_after))]
-fn distance_after(count: u32, period: u32, k: u32) -> u64
-    requires { 0 < count }
-    ensures { result ≡ distance_after count period k }
+fn distance_after(em: Em, k: u32) -> u64
+    requires { 0 < em.count }
+    ensures { result ≡ distance_after em.count em.period k }
 {
-    let c = u64::from(count);
-    let product = u64::from(k) * u64::from(period);
-    (product + u64::from(period)) / c - product / c
+    let c = u64::from(em.count);
+    let product = u64::from(k) * u64::from(em.period);
+    (product + u64::from(em.period)) / c - product / c
 }
 
-// After slot k of an em with C > 0: slot k + 1, or the end of the last pulse.
+// After slot k of an em with C > 0: slot k + 1, or the end of the last pulse, which lasts `pulse` ticks.
 #[tactic(auto, unfolding(crate::specs::Steps::after_counted))]
-pub(crate) fn after_counted(pulse: u32, count: u32, period: u32, k: u32) -> Waiting
-    ensures { result ≡ after_counted pulse count period k }
+pub(crate) fn after_counted(pulse: u32, em: Em, k: u32) -> Timed
+    ensures { result ≡ after_counted pulse em k }
 {
-    if u64::from(k) + 1 < u64::from(count) {
-        let tariff = Tariff::Counted {
-            count,
-            period,
-            next: k + 1,
-        };
-        Waiting::new(tariff, distance_after(count, period, k))
+    if u64::from(k) + 1 < u64::from(em.count) {
+        Timed {
+            tariff: Tariff::Counted { em, next: k + 1 },
+            wait: distance_after(em, k),
+        }
     } else {
-        Waiting::new(Tariff::Ending, u64::from(pulse))
+        Timed {
+            tariff: Tariff::Ending,
+            wait: u64::from(pulse),
+        }
     }
 }
 
@@ -50,59 +41,57 @@ fn ticks_left(seconds: u32, j: u32, pri: u32) -> u64
     (1000 * u64::from(seconds)).saturating_sub(u64::from(j) * u64::from(pri))
 }
 
-impl Position {
-    // After the last interval of the phase, which ends in `wait` ticks: the next phase, if there is one.
-    #[tactic(auto, unfolding(crate::specs::Steps::after_phase))]
-    fn after_phase(self, wait: u64) -> Waiting
-        ensures { result ≡ after_phase self.schedule self.phase wait }
-    {
-        if u64::from(self.phase) + 1 < u64::from(self.schedule.count) {
-            let next = Tariff::Phased {
-                phase: self.phase + 1,
-                entry: 0,
-                left: self.schedule.at(self.phase + 1).pd,
-                pulse: 0,
-            };
-            Waiting::new(next, wait)
-        } else {
-            Waiting::new(Tariff::Ending, wait)
-        }
-    }
+// After the last interval of a phase, which ends in `wait` ticks: the next phase, if there is one.
+#[tactic(auto, unfolding(crate::specs::Steps::after_phase))]
+fn after_phase(schedule: Schedule, phase: u32, wait: u64) -> Timed
+    ensures { result ≡ after_phase schedule phase wait }
+{
+    let tariff = if u64::from(phase) + 1 < u64::from(schedule.count) {
+        let next = phase + 1;
+        Tariff::Phased(Position::start(next, schedule.at(next)))
+    } else {
+        Tariff::Ending
+    };
+    Timed { tariff, wait }
+}
 
-    // After the last slot of an interval of the phase, which is p: the next interval of the phase, if there is one.
-    #[tactic(auto, unfolding(crate::specs::Steps::after_interval))]
-    fn after_interval(self, p: Phase) -> Waiting
-        ensures { result ≡ after_interval self.schedule self.phase self.entry self.left self.pulse p }
-    {
-        // An endless phase goes on, and so does one with seconds left after this interval.
-        if self.left == 0 || p.ci < self.left {
-            let next = Tariff::Phased {
-                phase: self.phase,
-                entry: intervals::next_entry(p, self.entry),
-                left: self.left.saturating_sub(p.ci),
-                pulse: 0,
-            };
-            Waiting::new(next, ticks_left(p.ci, self.pulse, p.pri))
-        } else {
-            self.after_phase(ticks_left(self.left, self.pulse, p.pri))
+// After the last slot of an interval of a phase, which is p: the next interval of the phase, if there is one.
+#[tactic(auto, unfolding(crate::specs::Steps::after_interval))]
+fn after_interval(schedule: Schedule, at: Position, p: Phase) -> Timed
+    ensures { result ≡ after_interval schedule at p }
+{
+    // An endless phase goes on, and so does one with seconds left after this interval.
+    if at.left == 0 || p.ci < at.left {
+        let next = Position {
+            entry: intervals::next_entry(p, at.entry),
+            left: at.left.saturating_sub(p.ci),
+            slot: 0,
+            ..at
+        };
+        Timed {
+            tariff: Tariff::Phased(next),
+            wait: ticks_left(p.ci, at.slot, p.pri),
         }
+    } else {
+        after_phase(schedule, at.phase, ticks_left(at.left, at.slot, p.pri))
     }
+}
 
-    // After a slot of an interval of m pulses of the phase, which is p: the next slot of the interval, if there is one.
-    #[tactic(auto, unfolding(crate::specs::Steps::after_phased))]
-    pub(crate) fn after_slot(self, p: Phase, m: u32) -> Waiting
-        ensures { result ≡ after_phased self.schedule self.phase self.entry self.left self.pulse p m }
-    {
-        if u64::from(self.pulse) + 1 < u64::from(m) {
-            let next = Tariff::Phased {
-                phase: self.phase,
-                entry: self.entry,
-                left: self.left,
-                pulse: self.pulse + 1,
-            };
-            Waiting::new(next, u64::from(p.pri))
-        } else {
-            self.after_interval(p)
+// After a slot of an interval of m pulses of a phase, which is p: the next slot of the interval, if there is one.
+#[tactic(auto, unfolding(crate::specs::Steps::after_phased))]
+pub(crate) fn after_slot(schedule: Schedule, at: Position, p: Phase, m: u32) -> Timed
+    ensures { result ≡ after_phased schedule at p m }
+{
+    if u64::from(at.slot) + 1 < u64::from(m) {
+        let next = Position {
+            slot: at.slot + 1,
+            ..at
+        };
+        Timed {
+            tariff: Tariff::Phased(next),
+            wait: u64::from(p.pri),
         }
+    } else {
+        after_interval(schedule, at, p)
     }
 }

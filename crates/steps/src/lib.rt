@@ -1,50 +1,33 @@
 // A tariff one tick on: what is due, and where the tariff stands after it.
 #![tactic(auto)]
 
-ghost use Rattle.std.specs.Prelude.{◌≡◌, cond, eqb};
-ghost use Rattle.steps.specs.Steps.{due_of, step_of, waiting, stepped};
+ghost use Rattle.std.specs.Prelude.{◌≡◌, cond, eqb, Some, false};
+ghost use Rattle.steps.specs.Steps.{due_of, step_of, stepped};
 ghost use Rattle.tariff.specs.declared.Slot.TheVariants.{Empty, Pulse};
 ghost use Rattle.tariff.specs.declared.Tariff.TheVariants.{Phased};
 
 mod after;
 mod intervals;
 
-use after::Position;
-use tariff::{Schedule, Slot, Tariff};
+use tariff::{Position, Schedule, Slot, Tariff, Timed};
 
-// A tariff, and the ticks to its next slot or to its completion.
-#[derive(Clone, Copy, PartialEq, Eq, Debug)]
-pub struct Waiting {
-    pub tariff: Tariff,
-    pub wait: u64,
-}
-
-// A tariff one tick on, the ticks to its next slot or to its completion, the slot of that tick if it has one, and whether
-// the tariff is complete at it.
+// A tariff one tick on, the slot of that tick if it has one, and whether the tariff is complete at it.
 #[derive(Clone, Copy, PartialEq, Eq, Debug)]
 pub struct Stepped {
-    pub tariff: Tariff,
-    pub wait: u64,
+    pub timed: Timed,
     pub slot: Option<Slot>,
     pub complete: bool,
 }
 
-impl Waiting {
-    fn new(tariff: Tariff, wait: u64) -> Waiting
-        ensures { result ≡ waiting tariff wait }
-    {
-        Waiting { tariff, wait }
-    }
-
-    // The tariff after a tick with this slot or none.
-    fn stepped(self, slot: Option<Slot>, complete: bool) -> Stepped
-        ensures { result ≡ stepped self slot complete }
+impl Stepped {
+    // With a slot.
+    fn with_slot(timed: Timed, slot: Slot) -> Stepped
+        ensures { result ≡ stepped timed (Some slot) false }
     {
         Stepped {
-            tariff: self.tariff,
-            wait: self.wait,
-            slot,
-            complete,
+            timed,
+            slot: Some(slot),
+            complete: false,
         }
     }
 }
@@ -56,16 +39,14 @@ fn slot_of(m: u32) -> Slot
     if m == 0 { Slot::Empty } else { Slot::Pulse }
 }
 
-impl Position {
-    // What is due where it stands. The length of a pulse, 0 here, makes no difference to a phased tariff.
-    #[tactic(auto, unfolding(crate::specs::Steps::due_of))]
-    fn due(self) -> Stepped
-        ensures { result ≡ due_of 0 self.schedule (Phased self.phase self.entry self.left self.pulse) }
-    {
-        let p = self.schedule.at(self.phase);
-        let m = intervals::pulses_at(p, self.entry);
-        self.after_slot(p, m).stepped(Some(slot_of(m)), false)
-    }
+// What is due of a phased tariff. The length of a pulse, 0 here, makes no difference to it.
+#[tactic(auto, unfolding(crate::specs::Steps::due_of))]
+fn due_phased(at: Position, schedule: Schedule) -> Stepped
+    ensures { result ≡ due_of 0 schedule (Phased at) }
+{
+    let p = schedule.at(at.phase);
+    let m = intervals::pulses_at(p, at.entry);
+    Stepped::with_slot(after::after_slot(schedule, at, p, m), slot_of(m))
 }
 
 // What is due when the wait is over, on a line with these phases, whose pulses last `pulse` ticks.
@@ -74,40 +55,37 @@ fn due(tariff: Tariff, pulse: u32, schedule: Schedule) -> Stepped
     ensures { result ≡ due_of pulse schedule tariff }
 {
     match tariff {
-        Tariff::Idle => Waiting::new(tariff, 0).stepped(None, false),
         Tariff::Endless { interval } => {
-            Waiting::new(tariff, u64::from(interval)).stepped(Some(Slot::Pulse), false)
+            let wait = u64::from(interval);
+            Stepped::with_slot(Timed { tariff, wait }, Slot::Pulse)
         }
-        Tariff::Counted {
-            count,
-            period,
-            next,
-        } => after::after_counted(pulse, count, period, next).stepped(Some(Slot::Pulse), false),
-        Tariff::Phased {
-            phase,
-            entry,
-            left,
-            pulse,
-        } => Position {
-            schedule,
-            phase,
-            entry,
-            left,
-            pulse,
+        Tariff::Counted { em, next } => {
+            Stepped::with_slot(after::after_counted(pulse, em, next), Slot::Pulse)
         }
-        .due(),
-        Tariff::Ending => Waiting::new(Tariff::Idle, 0).stepped(None, true),
+        Tariff::Phased(at) => due_phased(at, schedule),
+        Tariff::Idle | Tariff::Ending => Stepped {
+            timed: Timed::default(),
+            slot: None,
+            complete: tariff == Tariff::Ending,
+        },
     }
 }
 
 // One tick of a tariff: one less to wait, or what is due.
 #[tactic(auto, unfolding(crate::specs::Steps::step_of))]
-pub fn step(tariff: Tariff, wait: u64, pulse: u32, schedule: Schedule) -> Stepped
-    ensures { result ≡ step_of pulse schedule tariff wait }
+pub fn step(timed: Timed, pulse: u32, schedule: Schedule) -> Stepped
+    ensures { result ≡ step_of pulse schedule timed }
 {
-    if 1 < wait {
-        Waiting::new(tariff, wait - 1).stepped(None, false)
+    if 1 < timed.wait {
+        Stepped {
+            timed: Timed {
+                wait: timed.wait - 1,
+                ..timed
+            },
+            slot: None,
+            complete: false,
+        }
     } else {
-        due(tariff, pulse, schedule)
+        due(timed.tariff, pulse, schedule)
     }
 }

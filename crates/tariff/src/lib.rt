@@ -2,6 +2,7 @@
 #![tactic(auto)]
 
 mod phases;
+mod positions;
 mod room;
 mod setting;
 
@@ -32,29 +33,41 @@ pub enum Slot {
     Pulse,
 }
 
-// Where a tariff stands. The ticks to its next slot, or to its completion where it is ending, are kept beside it.
+// An em: its count C and its period P.
+#[derive(Clone, Copy, PartialEq, Eq, Debug)]
+pub struct Em {
+    pub count: u32,
+    pub period: u32,
+}
+
+// Where a phased tariff stands: before a slot of a charge interval, by its phase, its map entry, the seconds of the phase
+// from the interval's start on, and the slot. An entry counts up to repx + repn, which 32 bits may not hold.
+// Stays: `left` begins as pd, which is 0 in an endless phase; an Option made of that number is no plainer.
+#[derive(Clone, Copy, PartialEq, Eq, Debug)]
+pub struct Position {
+    pub phase: u32,
+    pub entry: u64,
+    pub left: u32,
+    pub slot: u32,
+}
+
+// Where a tariff stands.
 #[derive(Clone, Copy, PartialEq, Eq, Debug, Default)]
 pub enum Tariff {
     #[default]
     Idle,
     // An em with C = 0.
-    Endless {
-        interval: u32,
-    },
+    Endless { interval: u32 },
     // An em with C > 0, before slot `next`.
-    Counted {
-        count: u32,
-        period: u32,
-        next: u32,
-    },
-    // Before slot `pulse` of a charge interval: its phase, its map entry, and the seconds of the phase from its
-    // start on, 0 in an endless phase. An entry counts up to repx + repn, which 32 bits may not hold.
-    Phased {
-        phase: u32,
-        entry: u64,
-        left: u32,
-        pulse: u32,
-    },
+    Counted { em: Em, next: u32 },
+    Phased(Position),
     // No slot is left.
     Ending,
+}
+
+// A tariff, and the ticks to its next slot, or to its completion where it is ending.
+#[derive(Clone, Copy, PartialEq, Eq, Debug, Default)]
+pub struct Timed {
+    pub tariff: Tariff,
+    pub wait: u64,
 }

@@ -2,13 +2,13 @@
 ghost use Rattle.std.specs.Prelude.{◌≡◌};
 ghost use Rattle.tariff.specs.Tariffs.{room_of};
 
-use super::Tariff;
+use super::{Tariff, Timed};
 
-impl Tariff {
-    // Whether the next slot, `wait` ticks away, is `spacing` ticks away or more, if one is left.
-    pub fn room(self, wait: u64, spacing: u32) -> bool
-        ensures { result ≡ room_of spacing self wait }
+impl Timed {
+    // Whether the next slot is `spacing` ticks away or more, if one is left.
+    pub fn has_room(self, spacing: u32) -> bool
+        ensures { result ≡ room_of spacing self }
     {
-        matches!(self, Tariff::Idle | Tariff::Ending) || u64::from(spacing) <= wait
+        matches!(self.tariff, Tariff::Idle | Tariff::Ending) || u64::from(spacing) <= self.wait
     }
 }

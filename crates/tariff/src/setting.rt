@@ -2,22 +2,20 @@
 ghost use Rattle.std.specs.Prelude.{◌≡◌};
 ghost use Rattle.tariff.specs.Tariffs.{em_of, phased_of, rate_of, is_idle, is_endless};
 
-use super::{Phase, Tariff, phases};
+use super::{Em, Phase, Position, Tariff};
 
 impl Tariff {
     // A fresh em.
     #[tactic(auto, unfolding(crate::specs::Tariffs::em_of))]
-    pub fn em(count: u32, period: u32) -> Tariff
-        ensures { result ≡ em_of count period }
+    pub fn em(em: Em) -> Tariff
+        ensures { result ≡ em_of em.count em.period }
     {
-        if count == 0 {
-            Tariff::Endless { interval: period }
-        } else {
-            Tariff::Counted {
-                count,
-                period,
-                next: 0,
+        if em.count == 0 {
+            Tariff::Endless {
+                interval: em.period,
             }
+        } else {
+            Tariff::Counted { em, next: 0 }
         }
     }
 
@@ -26,12 +24,7 @@ impl Tariff {
     pub fn phased(phases: [Phase; 8]) -> Tariff
         ensures { result ≡ phased_of phases }
     {
-        Tariff::Phased {
-            phase: 0,
-            entry: 0,
-            left: phases[0].pd,
-            pulse: 0,
-        }
+        Tariff::Phased(Position::start(0, phases[0]))
     }
 
     // A rate: the next slot stays, and the later ones follow it `interval` apart.

@@ -1,27 +1,28 @@
 -- On a quiet line a tick only moves time on.
-use Rattle.std.proofs.Common.{◌≡◌, ℕ, ◌-◌, ◌≤◌, Bool, true, false, not, ◌&&◌, ◌||◌, ltb, leb, Option, None, Some, refl, ap, arith, ltb-false}
+use Rattle.std.proofs.Common.{◌≡◌, ℕ, ◌-◌, ◌≤◌, Bool, true, false, ◌&&◌, ◌||◌, ltb, leb, Option, None, Some, refl, ap, arith, ltb-false}
 use mathlib.Core.Bool.{and-eq-true_iff, false≢true}
 use borrow.Author.Tests.{not-true}
 use borrow.Table.Steps.{cases}
 use Rattle.answers.specs.Fronts.{silent}
 use Rattle.std.specs.Option.{option_map}
-use Rattle.tariff.specs.Tariffs.{room_of, is_idle}
-use Rattle.steps.specs.Steps.{waiting, stepped, due_of, step_of}
+use Rattle.tariff.specs.Tariffs.{room_of, is_idle, timed}
+use Rattle.tariff.specs.declared.Timed.{Timed}
+use Rattle.steps.specs.Steps.{stepped, due_of, step_of}
 use Rattle.tariff.specs.declared.Schedule.{Schedule}
 use Rattle.tariff.specs.declared.Tariff.{Tariff}
 use Rattle.tariff.specs.declared.Tariff.TheVariants.{Idle, Endless, Counted, Phased, Ending}
 use Rattle.burst.specs.Bursts.{held_more, older_of, completes_of, aged_of, any_due, burst_quiet}
 use Rattle.burst.specs.declared.Burst.{Burst}
-use Rattle.state.specs.States.{is_on, count_by, quiet_of, waited_of}
+use Rattle.state.specs.States.{ends_at, count_by, quiet_of, waited_of}
 use Rattle.state.specs.declared.State.{State}
 use Rattle.ticking.specs.Moves.{since_front, burst_after, happens, moved_by}
 
 -- what the four parts of `quiet_of` say
 record Quiet (D S : ℕ) (s : State) : Type 0 where
-  waits : (ltb 1 s.wait || is_idle s.tariff) ≡ true
+  waits : (ltb 1 s.timed.wait || is_idle s.timed.tariff) ≡ true
   runs : aged_of D s.burst ≡ record { burst = option_map older_of s.burst; complete = false }
   rests : (any_due (option_map older_of s.burst) && leb S (held_more S s.since)) ≡ false
-  holds : (is_on D s.since && not (is_on D (held_more S s.since))) ≡ false
+  holds : ends_at D s.since (held_more S s.since) ≡ false
 
 -- a burst that is quiet is not complete, and no pulse of it may start
 burst-rests : (D : ℕ) (passed : Bool) (b : Option Burst) → burst_quiet D passed b ≡ true →
@@ -40,17 +41,18 @@ quiet-parts D S s h =
 
 -- the tariff waits on, the burst runs on, and no burst pulse may start
 module _ (D : ℕ) (ps : Schedule) where
-  idle-waits : (t : Tariff) (w : ℕ) → w ≤ 1 → is_idle t ≡ true → due_of D ps t ≡ stepped (waiting t (w - 1)) None false
+  idle-waits : (t : Tariff) (w : ℕ) → w ≤ 1 → is_idle t ≡ true → due_of D ps t ≡ stepped (timed t (w - 1)) None false
   unfolding due_of
-  idle-waits Idle w l h = ap (λ (x : ℕ). stepped (waiting Idle x) None false) (omega arith)
+  idle-waits Idle w l h = ap (λ (x : ℕ). stepped (timed Idle x) None false) (omega arith)
   idle-waits (Endless P) w l h = absurd (false≢true h)
-  idle-waits (Counted C P k) w l h = absurd (false≢true h)
-  idle-waits (Phased i e s j) w l h = absurd (false≢true h)
+  idle-waits (Counted m k) w l h = absurd (false≢true h)
+  idle-waits (Phased q) w l h = absurd (false≢true h)
   idle-waits Ending w l h = absurd (false≢true h)
 
-  step_waits : (t : Tariff) (w : ℕ) → (ltb 1 w || is_idle t) ≡ true → step_of D ps t w ≡ stepped (waiting t (w - 1)) None false
+  step_waits : (x : Timed) → (ltb 1 x.wait || is_idle x.tariff) ≡ true
+      → step_of D ps x ≡ stepped (timed x.tariff (x.wait - 1)) None false
   unfolding step_of
-  step_waits t w h = cases (ltb 1 w) (λ e. rw e) (λ e. rw e (idle-waits t w (ltb-false 1 w e) (rw e at h)))
+  step_waits x h = cases (ltb 1 x.wait) (λ e. rw e) (λ e. rw e (idle-waits x.tariff x.wait (ltb-false 1 x.wait e) (rw e at h)))
 
 no_more : (a b c : Bool) → (a && b) ≡ false → (a && (b && c)) ≡ false
 no_more true true true h = h
@@ -63,5 +65,5 @@ module _ (D S : ℕ) (ps : Schedule) (s : State) where
   unfolding moved_by waited_of count_by since_front burst_after happens
   quiet_moves h =
       let q : Quiet D S s = quiet-parts D S s h in
-      let still = no_more (any_due (option_map older_of s.burst)) (leb S (held_more S s.since)) (room_of S s.tariff (s.wait - 1)) q.rests in
-      rw (step_waits D ps s.tariff s.wait q.waits, q.runs, still, q.holds)
+      let still = no_more (any_due (option_map older_of s.burst)) (leb S (held_more S s.since)) (room_of S (timed s.timed.tariff (s.timed.wait - 1))) q.rests in
+      rw (step_waits D ps s.timed q.waits, q.runs, still, q.holds)

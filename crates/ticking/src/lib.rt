@@ -1,8 +1,7 @@
 // One tick of a line: what is over ends, what is due begins and is counted.
 #![tactic(auto)]
 
-ghost use Rattle.std.specs.Prelude.{◌≡◌, not, ◌&&◌};
-ghost use Rattle.state.specs.States.{is_on};
+ghost use Rattle.std.specs.Prelude.{◌≡◌};
 ghost use Rattle.ticking.specs.Rules.{front_at};
 ghost use Rattle.ticking.specs.Moves.{since_front, burst_after, happens, moved_by};
 
@@ -42,13 +41,6 @@ fn burst_after(front: Option<Front>, burst: Option<Burst>) -> Option<Burst>
     }
 }
 
-// Whether a pulse that was on is over now.
-fn ends(pulse: u32, before: u32, now: u32) -> bool
-    ensures { result ≡ (is_on pulse before && not (is_on pulse now)) }
-{
-    before < pulse && pulse <= now
-}
-
 // Whether anything happened.
 #[tactic(auto, unfolding(crate::specs::Moves::happens))]
 fn has_event(slot: Option<Slot>, front: Option<Front>, complete: bool, ended: bool) -> bool
@@ -64,17 +56,16 @@ pub fn moved(pulse: u32, spacing: u32, schedule: Schedule, state: State) -> Move
     ensures { result ≡ moved_by pulse spacing schedule state }
 {
     let since = burst::held_more(spacing, state.since);
-    let t = steps::step(state.tariff, state.wait, pulse, schedule);
+    let t = steps::step(state.timed, pulse, schedule);
     let b = burst::age(state.burst, pulse);
-    let may = burst::is_due(b.burst) && spacing <= since && t.tariff.room(t.wait, spacing);
+    let may = burst::any_due(b.burst) && spacing <= since && t.timed.has_room(spacing);
     let front = front_at(t.slot, may);
     let n = state.counters.counted_by(front);
     Moved {
         state: State {
-            wait: t.wait,
+            timed: t.timed,
             clock: state.clock.wrapping_add(1),
             since: since_front(front, since),
-            tariff: t.tariff,
             burst: burst_after(front, b.burst),
             counters: n.counters,
         },
@@ -84,6 +75,6 @@ pub fn moved(pulse: u32, spacing: u32, schedule: Schedule, state: State) -> Move
             front,
             report: n.report,
         },
-        event: has_event(t.slot, front, t.complete, ends(pulse, state.since, since)),
+        event: has_event(t.slot, front, t.complete, state.ends(pulse, since)),
     }
 }
