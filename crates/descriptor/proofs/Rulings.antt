@@ -22,7 +22,7 @@ module _ (S : ℕ) (e b : Bool) where
   tariff-ruling-is KeepTariff ls = refl
   tariff-ruling-is (Rate P) ls =
       cases e (λ t. cases (sound_em S 0 P) (λ u. rw (t, u)) (λ u. rw (t, u))) (λ t. rw t)
-  tariff-ruling-is (Em C P) ls = cases (sound_em S C P) (λ u. rw u) (λ u. rw u)
+  tariff-ruling-is (Em m) ls = cases (sound_em S m.count m.period) (λ u. rw u) (λ u. rw u)
   tariff-ruling-is Phased ls = lists_verdict S e b ls
 
   burst-ruling-is : (p : BurstPart) → burst_ruling b p ≡ ruling (burst_causes S e b p)

@@ -68,7 +68,7 @@ module _ (S : ℕ) (e b : Bool) where
   tariff_ascends NoTariff ls more a = weaker 6 0 more (omega arith) a
   tariff_ascends KeepTariff ls more a = weaker 6 0 more (omega arith) a
   tariff_ascends (Rate P) ls more a = (omega arith, (omega arith, weaker 6 4 more (omega arith) a))
-  tariff_ascends (Em C P) ls more a = (omega arith, weaker 6 4 more (omega arith) a)
+  tariff_ascends (Em m) ls more a = (omega arith, weaker 6 4 more (omega arith) a)
   tariff_ascends Phased ls more a = (omega arith, (omega arith, a))
 
   burst_ascends : (p : BurstPart) → Ascending 6 (burst_causes S e b p)

@@ -49,7 +49,7 @@ module _ (S : ℕ) (endless_runs burst_runs : Bool) where
   tariff_causes NoTariff ls = []
   tariff_causes KeepTariff ls = []
   tariff_causes (Rate P) ls = cause NoEndlessEm (not endless_runs) ∷ cause Interval (not (sound_em S 0 P)) ∷ []
-  tariff_causes (Em C P) ls = cause Interval (not (sound_em S C P)) ∷ []
+  tariff_causes (Em m) ls = cause Interval (not (sound_em S m.count m.period)) ∷ []
   tariff_causes Phased ls =
       cause PhaseLists (not (sound_lists ls)) ∷ cause Phase (not (sound_phases S (phases_of ls))) ∷ []
 

@@ -21,7 +21,7 @@ abbrev pub table_for : ℕ → TariffPart → Lists → PhaseTable
 table_for S NoTariff ls = no_table
 table_for S KeepTariff ls = no_table
 table_for S (Rate P) ls = no_table
-table_for S (Em C P) ls = no_table
+table_for S (Em m) ls = no_table
 table_for S Phased ls = table_of S ls
 
 abbrev pub ruled_by : Ruling → Bool → Ruling → Ruling
@@ -38,7 +38,7 @@ tariff_ruling S e NoTariff t = Ok tt
 tariff_ruling S e KeepTariff t = Ok tt
 tariff_ruling S e (Rate P) t =
     ruled_by (Err NoEndlessEm) e (ruled_by (Err Interval) (sound_em S 0 P) (Ok tt))
-tariff_ruling S e (Em C P) t = ruled_by (Err Interval) (sound_em S C P) (Ok tt)
+tariff_ruling S e (Em m) t = ruled_by (Err Interval) (sound_em S m.count m.period) (Ok tt)
 tariff_ruling S e Phased t = carried_ruling t.carry
 
 -- where running says whether a burst runs

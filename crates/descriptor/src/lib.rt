@@ -2,14 +2,15 @@
 #![tactic(auto)]
 
 mod cancelling;
+mod configuring;
 mod refusals;
 mod tables;
 mod tickets;
 
 pub use cancelling::cancelled_by;
-use phase_lists::PhaseLists;
-pub use refusals::{ruling_on, sound_configuration};
+use phase_lists::{PhaseLists, PhaseTable};
 pub use tables::phases_for;
+use tariff::Em;
 pub use tickets::ticket_ruling;
 
 // The tariff part of a descriptor. The lists of a phased tariff stand beside it.
@@ -19,7 +20,7 @@ pub enum TariffPart {
     None,
     Keep,
     Rate { interval: u32 },
-    Em { count: u32, period: u32 },
+    Em(Em),
     Phased,
 }
 
@@ -41,6 +42,22 @@ pub enum Descriptor<'a> {
         burst: BurstPart,
     },
     Text(&'a [u8]),
+}
+
+// A descriptor's two parts, with the table of the phases of a phased tariff between them.
+#[derive(Clone, Copy, PartialEq, Eq, Debug)]
+pub struct Parts {
+    pub tariff: TariffPart,
+    pub table: PhaseTable,
+    pub burst: BurstPart,
+}
+
+// What a line is configured with: its pulse length D, its gap G and the clock that it starts from.
+#[derive(Clone, Copy, PartialEq, Eq, Debug)]
+pub struct Configuration {
+    pub pulse: u32,
+    pub gap: u32,
+    pub clock: u32,
 }
 
 // What an on-hook event carries.

@@ -1,13 +1,14 @@
-// The table of refusals: its numbers, and what it makes of a configuration and of a descriptor.
+// The table of refusals: its numbers, and what it makes of a descriptor.
 ghost use Rattle.std.specs.Prelude.{◌≡◌, false};
 ghost use Rattle.phase_lists.specs.Tables.{no_table};
-ghost use Rattle.descriptor.specs.Refusals.{refusal_number, sound_configuration, sound_burst};
+ghost use Rattle.descriptor.specs.Refusals.{refusal_number, sound_burst};
 ghost use Rattle.descriptor.specs.Rulings.{carried_ruling, tariff_ruling, burst_ruling, descriptor_ruling};
-ghost use Rattle.descriptor.specs.declared.TariffPart.TheVariants.{Rate, Em};
+ghost use Rattle.descriptor.specs.declared.TariffPart.TheVariants.{Rate, Em as OfEm};
 
-use super::{BurstPart, Refusal, Ruling, TariffPart};
+use super::{BurstPart, Parts, Refusal, Ruling, TariffPart};
 use phase_lists::PhaseTable;
 use rules::Carry;
+use tariff::Em;
 
 impl Refusal {
     // The paper's number.
@@ -33,13 +34,6 @@ impl Refusal {
     }
 }
 
-// Whether D and G are within their ends.
-pub fn sound_configuration(pulse: u32, gap: u32) -> bool
-    ensures { result ≡ sound_configuration pulse gap }
-{
-    (1..=500).contains(&pulse) && (1..=500).contains(&gap)
-}
-
 // Whether a burst's n and P are within their ends.
 fn sound_burst(pulses: u32, interval: u32) -> bool
     ensures { result ≡ sound_burst pulses interval }
@@ -55,15 +49,19 @@ fn rate_ruling(spacing: u32, endless: bool, interval: u32) -> Ruling
     if !endless {
         return Err(Refusal::NoEndlessEm);
     }
-    em_ruling(spacing, 0, interval)
+    let alike = Em {
+        count: 0,
+        period: interval,
+    };
+    em_ruling(spacing, alike)
 }
 
 // An em is held to its own rule only.
 #[tactic(auto, unfolding(crate::specs::Rulings::tariff_ruling))]
-fn em_ruling(spacing: u32, count: u32, period: u32) -> Ruling
-    ensures { result ≡ tariff_ruling spacing false (Em count period) no_table }
+fn em_ruling(spacing: u32, em: Em) -> Ruling
+    ensures { result ≡ tariff_ruling spacing false (OfEm em) no_table }
 {
-    if !rules::sound_em(spacing, count, period) {
+    if !rules::sound_em(spacing, em) {
         return Err(Refusal::Interval);
     }
     Ok(())
@@ -90,7 +88,7 @@ fn tariff_ruling(spacing: u32, endless: bool, part: TariffPart, table: PhaseTabl
     match part {
         TariffPart::None | TariffPart::Keep => Ok(()),
         TariffPart::Rate { interval } => rate_ruling(spacing, endless, interval),
-        TariffPart::Em { count, period } => em_ruling(spacing, count, period),
+        TariffPart::Em(em) => em_ruling(spacing, em),
         TariffPart::Phased => phased_ruling(table.carry),
     }
 }
@@ -114,18 +112,13 @@ fn burst_ruling(running: bool, part: BurstPart) -> Ruling
     }
 }
 
-// What the table makes of a descriptor, whose phases, if it is phased, are in `table`. `endless` says whether an em with
-// C = 0 runs, and `running` whether a burst runs.
-pub fn ruling_on(
-    spacing: u32,
-    endless: bool,
-    running: bool,
-    tariff: TariffPart,
-    table: PhaseTable,
-    burst: BurstPart,
-) -> Ruling
-    ensures { result ≡ descriptor_ruling spacing endless running tariff table burst }
-{
-    tariff_ruling(spacing, endless, tariff, table)?;
-    burst_ruling(running, burst)
+impl Parts {
+    // What the table makes of a descriptor, on a line of this spacing. `endless` says whether an em with C = 0 runs, and
+    // `running` whether a burst runs.
+    pub fn ruling(self, spacing: u32, endless: bool, running: bool) -> Ruling
+        ensures { result ≡ descriptor_ruling spacing endless running self.tariff self.table self.burst }
+    {
+        tariff_ruling(spacing, endless, self.tariff, self.table)?;
+        burst_ruling(running, self.burst)
+    }
 }

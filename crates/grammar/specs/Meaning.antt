@@ -2,6 +2,7 @@
 use Rattle.std.specs.Prelude.{ℕ, ◌+◌, ◌*◌, ◌-◌, min, Bool, false, cond, not, ◌||◌, ◌&&◌, List, [], ◌∷◌, ◌++◌, eqb}
 use Rattle.std.specs.Prelude.{ltb, leb}
 use Prim.Native.String.{String}
+use Rattle.tariff.specs.Tariffs.{em}
 use Rattle.phase_lists.specs.Lists.{Lists, lists_of}
 use Rattle.descriptor.specs.declared.TariffPart.{TariffPart}
 use Rattle.descriptor.specs.declared.TariffPart.TheVariants.{None as NoTariff, Keep as KeepTariff, Rate, Em, Phased}
@@ -186,7 +187,7 @@ module _ (has : ℕ → Bool) (values : ℕ → List ℕ) where
   tariff_by =
       let pri = first_or 0 (values 2) in
       let pc = first_or 0 (values 3) in
-      cond (has 0) (cond (has 1) (cond (ltb 0 pc) KeepTariff (Rate pri)) (Em pc pri))
+      cond (has 0) (cond (has 1) (cond (ltb 0 pc) KeepTariff (Rate pri)) (Em (em pc pri)))
       (cond (has 8) (cond (has 9) KeepTariff Phased) NoTariff)
 
   abbrev pub burst_by : BurstPart

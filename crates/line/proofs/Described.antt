@@ -5,8 +5,9 @@ use mathlib.Core.List.{List}
 use Prim.Native.Nat.{ℕ}
 use borrow.Author.Tests.{not-false}
 use borrow.Table.Steps.{cases}
-use Rattle.tariff.specs.Tariffs.{is_endless, schedule_of}
+use Rattle.tariff.specs.Tariffs.{is_endless}
 use Rattle.phase_lists.specs.Lists.{Lists, phases_of, sound_lists, first_places}
+use Rattle.phase_lists.specs.Tables.{schedule_in}
 use Rattle.phase_lists.proofs.PhaseTables.{sound-table}
 use Rattle.descriptor.specs.Refusals.{ruling, tariff_causes, burst_causes, descriptor_causes}
 use Rattle.descriptor.specs.Rulings.{table_for}
@@ -31,12 +32,12 @@ use Rattle.descriptor.proofs.Causes.{none_first, none_after}
 use Rattle.descriptor.proofs.Rulings.{descriptor-ruling-is}
 
 -- where the tariff part is allowed, the table holds the phases of its lists
-tariff-changed-is : (S : ℕ) (e b : Bool) (t : TariffPart) (ls : Lists) (l : Line) → ruling (tariff_causes S e b t ls) ≡ Ok tt → tariff_changed t (schedule_of (table_for S t ls).phases (table_for S t ls).carry.count) l ≡ tariff_changed t (scheduled (phases_of ls)) l
+tariff-changed-is : (S : ℕ) (e b : Bool) (t : TariffPart) (ls : Lists) (l : Line) → ruling (tariff_causes S e b t ls) ≡ Ok tt → tariff_changed t (schedule_in (table_for S t ls)) l ≡ tariff_changed t (scheduled (phases_of ls)) l
 unfolding tariff_changed
 tariff-changed-is S e b NoTariff ls l h = refl
 tariff-changed-is S e b KeepTariff ls l h = refl
 tariff-changed-is S e b (Rate P) ls l h = refl
-tariff-changed-is S e b (Em C P) ls l h = refl
+tariff-changed-is S e b (Em m) ls l h = refl
 tariff-changed-is S e b Phased ls l h =
     let sound = not-false (sound_lists ls) (none_first _ (not (sound_lists ls)) _ h).0 in
     let t = sound-table S ls sound in rw (t.0, t.1)
@@ -47,11 +48,11 @@ same_answer (Ok tt) l k h = rw (h refl)
 same_answer (Err r) l k h = refl
 
 -- a descriptor's answer from its table of phases is its answer from its lists
-pub describe-is : (l : Line) (t : TariffPart) (ls : Lists) (p : BurstPart) → described_by l t (table_for l.spacing t ls) p ≡ describe_of l t ls p
+pub describe-is : (l : Line) (t : TariffPart) (ls : Lists) (p : BurstPart) → described_by l (record { tariff = t; table = table_for l.spacing t ls; burst = p }) ≡ describe_of l t ls p
 unfolding describe_of
 describe-is l t ls p =
     let S : ℕ = l.spacing in
-    let e : Bool = is_endless l.state.tariff in
+    let e : Bool = is_endless l.state.timed.tariff in
     let b : Bool = is_running l.state.burst in
     rw (descriptor-ruling-is S e b t ls p)
     (same_answer (ruling (descriptor_causes S e b t ls p)) l (cancelled_by p (burst_owed l.state.burst))
@@ -63,13 +64,14 @@ unfolding describe_of ruling tariff_changed
 describe_nine l NoTariff ls p = refl
 describe_nine l KeepTariff ls p = refl
 describe_nine l (Rate P) ls p = refl
-describe_nine l (Em C P) ls p = refl
+describe_nine l (Em m) ls p = refl
 describe_nine l Phased ls p = cases (sound_lists ls) (λ t. ap (λ (ms : Lists). describe_of l Phased ms p) (nine_whole ls t)) (λ t. rw (sound_nine ls, t))
 
 -- what the code makes of a reading
 abbrev taken : Line → Result Reading Refusal → Answered
 taken l (Err r) = refusing l r
-taken l (Ok q) = described_by l q.tariff (table_for l.spacing q.tariff (lists_of_reading q)) q.burst
+taken l (Ok q) =
+    described_by l (record { tariff = q.tariff; table = table_for l.spacing q.tariff (lists_of_reading q); burst = q.burst })
 
 read_is : (l : Line) (m : Meant) (r : Result Reading Refusal) → Agrees m r → taken l r ≡ read_answer l m
 read_is l unreadable r h = ap (taken l) h

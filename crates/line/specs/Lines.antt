@@ -1,12 +1,14 @@
 -- What each command makes of a line and answers: what the code computes.
 use Rattle.std.specs.Prelude.{Bool, cond, List, ℕ, ◌+◌, max, length, Option, None, Some, Result, Ok, Err}
-use Rattle.tariff.specs.Tariffs.{em_of, phased_of, is_endless, schedule_of}
+use Rattle.tariff.specs.Tariffs.{em_of, phased_of, is_endless, schedule_of, timed}
+use Rattle.tariff.specs.declared.Em.{Em as OneEm}
 use Rattle.tariff.specs.declared.Phase.{Phase}
 use Rattle.tariff.specs.declared.Schedule.{Schedule}
+use Rattle.tariff.specs.declared.Tariff.{Tariff}
 use Rattle.tariff.specs.declared.Tariff.TheVariants.{Idle}
+use Rattle.tariff.specs.declared.Timed.{Timed}
 use Rattle.phase_lists.specs.Lists.{Lists, phases_of, lists_in}
-use Rattle.phase_lists.specs.Tables.{no_phases, eight_of}
-use Rattle.phase_lists.specs.declared.PhaseTable.{PhaseTable}
+use Rattle.phase_lists.specs.Tables.{no_phases, eight_of, schedule_in}
 use Rattle.descriptor.specs.Refusals.{ruling, sound_configuration, descriptor_causes, period_causes, ticket_causes}
 use Rattle.descriptor.specs.Rulings.{descriptor_ruling}
 use Rattle.descriptor.specs.Cancelled.{cancelled_by}
@@ -18,6 +20,7 @@ use Rattle.descriptor.specs.declared.BurstPart.{BurstPart}
 use Rattle.descriptor.specs.declared.BurstPart.TheVariants.{None as NoBurst, Keep as KeepBurst, Start}
 use Rattle.descriptor.specs.declared.Refusal.{Refusal}
 use Rattle.descriptor.specs.declared.Refusal.TheVariants.{Configuration, Grammar, Content}
+use Rattle.descriptor.specs.declared.Parts.{Parts as TheParts}
 use Rattle.descriptor.specs.declared.Descriptor.{Descriptor}
 use Rattle.descriptor.specs.declared.Descriptor.TheVariants.{Parts, Text}
 use Rattle.descriptor.specs.declared.Hook.{Hook}
@@ -51,10 +54,9 @@ idle_line D S clock since =
       serial = 0;
       state =
           record {
-            wait = 0;
+            timed = timed Idle 0;
             clock = clock;
             since = since;
-            tariff = Idle;
             burst = no_burst;
             counters = zero_counters None;
           };
@@ -69,11 +71,14 @@ fresh_line D S clock = idle_line D S clock S
 unfoldable pub blank_line : Line
 blank_line = idle_line 0 4294967295 0 0
 
--- where the configuration is refused, a blank line stands in the answer
-unfoldable pub make_of : ℕ → ℕ → ℕ → Answered
-make_of D G clock =
-    cond (sound_configuration D G) (record { line = fresh_line D (D + G) clock; verdict = Ok 0 })
-    (record { line = blank_line; verdict = Err Configuration })
+-- where the configuration is refused, no line is made
+unfoldable pub make_of : ℕ → ℕ → ℕ → Result Line Refusal
+make_of D G clock = cond (sound_configuration D G) (Ok (fresh_line D (D + G) clock)) (Err Configuration)
+
+-- the line that is made, or a blank one where none is
+abbrev pub made_or_blank : Result Line Refusal → Line
+made_or_blank (Ok l) = l
+made_or_blank (Err r) = blank_line
 
 -- ---- accepted and refused commands
 
@@ -112,11 +117,14 @@ with_state l s =
       schedule = l.schedule;
     }
 
+-- a fresh tariff, before its origin
+abbrev pub fresh_of : Line → Tariff → Timed
+fresh_of l t = timed t (origin_wait l.spacing l.state)
+
 -- a fresh em zeroes the counters
-abbrev pub with_em : Line → ℕ → ℕ → Line
-with_em l C P =
-    let s = l.state in
-    with_state l (with_tariff s (origin_wait l.spacing s) (em_of C P) (zero_counters s.counters.rp))
+abbrev pub with_em : Line → OneEm → Line
+with_em l m =
+    with_state l (with_tariff l.state (fresh_of l (em_of m.count m.period)) (zero_counters l.state.counters.rp))
 
 -- the phases of a list, at the front of the eight
 abbrev pub scheduled : List Phase → Schedule
@@ -128,7 +136,7 @@ with_schedule l ps =
       pulse = l.pulse;
       spacing = l.spacing;
       serial = l.serial;
-      state = with_tariff l.state (origin_wait l.spacing l.state) (phased_of ps.phases) l.state.counters;
+      state = with_tariff l.state (fresh_of l (phased_of ps.phases)) l.state.counters;
       schedule = ps;
     }
 
@@ -136,7 +144,7 @@ unfoldable pub tariff_changed : TariffPart → Schedule → Line → Line
 tariff_changed NoTariff ps l = with_state l (stopped l.state)
 tariff_changed KeepTariff ps l = l
 tariff_changed (Rate P) ps l = with_state l (with_rate l.state P)
-tariff_changed (Em C P) ps l = with_em l C P
+tariff_changed (Em m) ps l = with_em l m
 tariff_changed Phased ps l = with_schedule l ps
 
 unfoldable pub burst_changed : BurstPart → Line → Line
@@ -147,17 +155,19 @@ burst_changed (Start n P) l = with_state l (with_burst l.state (Some (start_of n
 unfoldable pub describe_of : Line → TariffPart → Lists → BurstPart → Answered
 describe_of l t ls b =
     let s = l.state in
-    answered_by (ruling (descriptor_causes l.spacing (is_endless s.tariff) (is_running s.burst) t ls b)) l
+    answered_by (ruling (descriptor_causes l.spacing (is_endless s.timed.tariff) (is_running s.burst) t ls b)) l
     (burst_changed b (tariff_changed t (scheduled (phases_of ls)) l))
     (cancelled_by b (burst_owed s.burst))
 
 -- the same with the phases in a table, as the code has them
-abbrev pub described_by : Line → TariffPart → PhaseTable → BurstPart → Answered
-described_by l t table b =
+abbrev pub described_by : Line → TheParts → Answered
+described_by l d =
     let s = l.state in
-    answered_by (descriptor_ruling l.spacing (is_endless s.tariff) (is_running s.burst) t table b) l
-    (burst_changed b (tariff_changed t (schedule_of table.phases table.carry.count) l))
-    (cancelled_by b (burst_owed s.burst))
+    answered_by
+    (descriptor_ruling l.spacing (is_endless s.timed.tariff) (is_running s.burst) d.tariff d.table d.burst)
+    l
+    (burst_changed d.burst (tariff_changed d.tariff (schedule_in d.table) l))
+    (cancelled_by d.burst (burst_owed s.burst))
 
 -- as a text: refused where it does not read, and then where it makes no sense; else as the descriptor that it reads as
 abbrev pub read_answer : Line → Reading → Answered

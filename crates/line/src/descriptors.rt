@@ -1,48 +1,50 @@
 // Descriptors: what the table of refusals makes of one, and the line and the answer after it.
 ghost use Rattle.std.specs.Prelude.{◌≡◌};
-ghost use Rattle.tariff.specs.Tariffs.{is_endless, schedule_of};
+ghost use Rattle.tariff.specs.Tariffs.{is_endless};
 ghost use Rattle.phase_lists.specs.Lists.{lists_in};
+ghost use Rattle.phase_lists.specs.Tables.{schedule_in};
 ghost use Rattle.descriptor.specs.Rulings.{descriptor_ruling};
 ghost use Rattle.burst.specs.Bursts.{is_running};
-ghost use Rattle.line.specs.Lines.{with_em, with_schedule, tariff_changed, burst_changed, described_by, describe_of, describe_text_of, read_answer, meant_by};
+ghost use Rattle.line.specs.Lines.{fresh_of, with_em, with_schedule, tariff_changed, burst_changed, described_by, describe_of, describe_text_of, read_answer, meant_by};
 
 use super::{Answered, Line};
 use burst::Burst;
-use descriptor::{BurstPart, Descriptor, Ruling, TariffPart};
+use descriptor::{BurstPart, Descriptor, Parts, Ruling, TariffPart};
 use phase_lists::{PhaseLists, PhaseTable};
 use state::Counters;
-use tariff::{Schedule, Tariff};
+use tariff::{Em, Schedule, Tariff, Timed};
 
 impl Line {
+    // A fresh tariff, before its origin.
+    fn fresh(self, tariff: Tariff) -> Timed
+        ensures { result ≡ fresh_of self tariff }
+    {
+        Timed {
+            tariff,
+            wait: self.state.origin_wait(self.spacing),
+        }
+    }
+
     // The line with a fresh em, which zeroes the counters.
-    fn with_em(self, count: u32, period: u32) -> Line
-        ensures { result ≡ with_em self count period }
+    fn with_em(self, em: Em) -> Line
+        ensures { result ≡ with_em self em }
     {
         let zero = Counters {
             cpc: 0,
             pcslr: 0,
             ..self.state.counters
         };
-        let wait = self.state.origin_wait(self.spacing);
-        self.with_state(
-            self.state
-                .with_tariff(wait, Tariff::em(count, period), zero),
-        )
+        let fresh = self.fresh(Tariff::em(em));
+        self.with_state(self.state.with_tariff(fresh, zero))
     }
 
-    // The line with a fresh phased tariff, whose phases are in the table.
-    fn with_table(self, table: PhaseTable) -> Line
-        ensures { result ≡ with_schedule self (schedule_of table.phases table.carry.count) }
+    // The line with a fresh phased tariff of these phases.
+    fn with_schedule(self, schedule: Schedule) -> Line
+        ensures { result ≡ with_schedule self schedule }
     {
-        let wait = self.state.origin_wait(self.spacing);
-        let phases = table.phases;
-        let tariff = Tariff::phased(phases);
-        let schedule = Schedule {
-            count: table.carry.count,
-            phases,
-        };
+        let fresh = self.fresh(Tariff::phased(schedule.phases));
         Line {
-            state: self.state.with_tariff(wait, tariff, self.state.counters),
+            state: self.state.with_tariff(fresh, self.state.counters),
             schedule,
             ..self
         }
@@ -51,14 +53,14 @@ impl Line {
     // The line with a tariff part taken, whose phases, if it is phased, are in the table.
     #[tactic(auto, unfolding(crate::specs::Lines::tariff_changed))]
     fn with_tariff_part(self, part: TariffPart, table: PhaseTable) -> Line
-        ensures { result ≡ tariff_changed part (schedule_of table.phases table.carry.count) self }
+        ensures { result ≡ tariff_changed part (schedule_in table) self }
     {
         match part {
             TariffPart::None => self.with_state(self.state.stopped()),
             TariffPart::Keep => self,
             TariffPart::Rate { interval } => self.with_state(self.state.rated(interval)),
-            TariffPart::Em { count, period } => self.with_em(count, period),
-            TariffPart::Phased => self.with_table(table),
+            TariffPart::Em(em) => self.with_em(em),
+            TariffPart::Phased => self.with_schedule(table.into()),
         }
     }
 
@@ -78,30 +80,27 @@ impl Line {
         }
     }
 
-    // What the table of refusals makes of a descriptor, whose phases, if it is phased, are in the table.
-    fn ruling(self, tariff: TariffPart, table: PhaseTable, burst: BurstPart) -> Ruling
-        ensures { result ≡ descriptor_ruling self.spacing (is_endless self.state.tariff) (is_running self.state.burst) tariff table burst }
+    // What the table of refusals makes of a descriptor.
+    fn ruling(self, given: Parts) -> Ruling
+        ensures { result ≡ descriptor_ruling self.spacing (is_endless self.state.timed.tariff) (is_running self.state.burst) given.tariff given.table given.burst }
     {
-        let endless = self.state.tariff.is_endless();
+        let endless = self.state.timed.tariff.is_endless();
         let running = burst::is_running(self.state.burst);
-        descriptor::ruling_on(self.spacing, endless, running, tariff, table, burst)
+        given.ruling(self.spacing, endless, running)
     }
 
-    // A descriptor whose phases, if it is phased, are in the table.
-    pub(crate) fn described(
-        self,
-        tariff: TariffPart,
-        table: PhaseTable,
-        burst: BurstPart,
-    ) -> Answered
-        ensures { result ≡ described_by self tariff table burst }
+    // A descriptor by its parts, with the table of its phases.
+    fn described(self, given: Parts) -> Answered
+        ensures { result ≡ described_by self given }
     {
-        match self.ruling(tariff, table, burst) {
+        match self.ruling(given) {
             Err(refusal) => self.refusing(refusal),
             Ok(()) => {
-                let cancelled = descriptor::cancelled_by(burst, burst::owed(self.state.burst));
-                let changed = self.with_tariff_part(tariff, table).with_burst_part(burst);
-                changed.accepting(cancelled)
+                let owed = burst::owed(self.state.burst);
+                let cancelled = descriptor::cancelled_by(given.burst, owed);
+                self.with_tariff_part(given.tariff, given.table)
+                    .with_burst_part(given.burst)
+                    .accepting(cancelled)
             }
         }
     }
@@ -111,7 +110,11 @@ impl Line {
         ensures { result ≡ describe_of self tariff (lists_in lists.entry) burst }
     {
         let table = descriptor::phases_for(self.spacing, tariff, lists);
-        self.described(tariff, table, burst)
+        self.described(Parts {
+            tariff,
+            table,
+            burst,
+        })
     }
 
     // A descriptor as a text. It is refused where it does not read, and then where it makes no sense; else it is the
@@ -123,7 +126,11 @@ impl Line {
             Err(why) => self.refusing(why),
             Ok(reading) => {
                 let table = reading.phases(self.spacing);
-                self.described(reading.tariff, table, reading.burst)
+                self.described(Parts {
+                    tariff: reading.tariff,
+                    table,
+                    burst: reading.burst,
+                })
             }
         }
     }

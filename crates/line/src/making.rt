@@ -2,10 +2,10 @@
 ghost use Rattle.std.specs.Prelude.{◌≡◌};
 ghost use Rattle.line.specs.Lines.{idle_line, fresh_line, blank_line, make_of};
 
-use super::{Answered, Line};
-use descriptor::Refusal;
+use super::Line;
+use descriptor::{Configuration, Refusal};
 use state::{Counters, State};
-use tariff::{Schedule, Tariff};
+use tariff::{Schedule, Timed};
 
 impl Line {
     // No tariff, burst or report period, and counters and serial 0.
@@ -17,10 +17,9 @@ impl Line {
             spacing,
             serial: 0,
             state: State {
-                wait: 0,
+                timed: Timed::default(),
                 clock,
                 since,
-                tariff: Tariff::Idle,
                 burst: None,
                 counters: Counters::default(),
             },
@@ -28,36 +27,25 @@ impl Line {
         }
     }
 
-    // With no earlier front its rules ask nothing.
-    #[tactic(auto, unfolding(crate::specs::Lines::fresh_line))]
-    fn fresh(pulse: u32, spacing: u32, clock: u32) -> Line
-        ensures { result ≡ fresh_line pulse spacing clock }
+    // A line of this configuration: with no earlier front its rules ask nothing.
+    #[tactic(auto, unfolding(crate::specs::Lines::make_of, crate::specs::Lines::fresh_line))]
+    pub fn make(given: Configuration) -> Result<Line, Refusal>
+        ensures { result ≡ make_of given.pulse given.gap given.clock }
     {
-        Line::idle(pulse, spacing, clock, spacing)
+        if !given.is_sound() {
+            return Err(Refusal::Configuration);
+        }
+        let spacing = given.pulse + given.gap;
+        Ok(Line::idle(given.pulse, spacing, given.clock, spacing))
     }
+}
 
-    // The line of a refused configuration, which begins no pulse.
+// A blank line, which begins no pulse.
+impl Default for Line {
+    ghost is_default = { λ line. line ≡ blank_line };
+
     #[tactic(auto, unfolding(crate::specs::Lines::blank_line))]
-    fn blank() -> Line
-        ensures { result ≡ blank_line }
-    {
-        Line::idle(0, 4294967295, 0, 0)
-    }
-
-    // A line of this pulse length and gap; a blank line where they are refused.
-    #[tactic(auto, unfolding(crate::specs::Lines::make_of))]
-    pub fn make(pulse: u32, gap: u32, clock: u32) -> Answered
-        ensures { result ≡ make_of pulse gap clock }
-    {
-        if !descriptor::sound_configuration(pulse, gap) {
-            return Answered {
-                line: Line::blank(),
-                verdict: Err(Refusal::Configuration),
-            };
-        }
-        Answered {
-            line: Line::fresh(pulse, pulse + gap, clock),
-            verdict: Ok(0),
-        }
+    fn default() -> Line {
+        Line::idle(0, u32::MAX, 0, 0)
     }
 }

@@ -30,6 +30,6 @@ impl Line {
     pub fn is_on(self) -> bool
         ensures { result ≡ on_of self }
     {
-        self.state.since < self.pulse
+        self.state.is_on(self.pulse)
     }
 }

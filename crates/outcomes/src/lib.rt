@@ -11,6 +11,7 @@ use descriptor::{BurstPart, Refusal, TariffPart};
 use notes::Notes;
 pub use notes::{Values, slots};
 use phase_lists::{PhaseLists, PhaseTable};
+use tariff::Em;
 
 // The parts of a descriptor that was read, and what is kept of the values of each name, by its slot. The values of the
 // seven phase lists are those of a phased tariff.
@@ -45,7 +46,7 @@ fn tariff(notes: &Notes) -> TariffPart
     let count = notes.values[slots::EM_PC].first_or(0);
     if notes.has(slots::EM) {
         if !notes.has(slots::EM_KEEP) {
-            return TariffPart::Em { count, period };
+            return TariffPart::Em(Em { count, period });
         }
         if count > 0 {
             return TariffPart::Keep;

@@ -1,7 +1,8 @@
 -- The phases of a descriptor, read and met in one pass.
 use Rattle.std.specs.Prelude.{cond, List, ◌++◌, ℕ, ◌-◌, min, length, replicate}
-use Rattle.tariff.specs.Tariffs.{no_phase}
+use Rattle.tariff.specs.Tariffs.{no_phase, schedule_of}
 use Rattle.tariff.specs.declared.Phase.{Phase}
+use Rattle.tariff.specs.declared.Schedule.{Schedule}
 use Rattle.rules.specs.Carried.{none_met, carried}
 use Rattle.phase_lists.specs.Lists.{Lists, first_phases, one_length}
 use Rattle.phase_lists.specs.declared.PhaseTable.{PhaseTable}
@@ -15,6 +16,10 @@ eight_of ps = ps ++ replicate (8 - length ps) no_phase
 
 abbrev pub no_table : PhaseTable
 no_table = record { carry = none_met; phases = no_phases }
+
+-- the phases of a table, and how many there are
+abbrev pub schedule_in : PhaseTable → Schedule
+schedule_in t = schedule_of t.phases t.carry.count
 
 -- how many phases there are to meet: none where the lengths differ
 unfoldable pub phase_count : Lists → ℕ

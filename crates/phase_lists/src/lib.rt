@@ -3,10 +3,10 @@
 
 ghost use Rattle.std.specs.Prelude.{◌≡◌, get_or};
 ghost use Rattle.phase_lists.specs.Lists.{phase_of, lists_in, no_lists};
-ghost use Rattle.phase_lists.specs.Tables.{no_table, phase_count, table_of};
+ghost use Rattle.phase_lists.specs.Tables.{no_table, phase_count, schedule_in, table_of};
 
 use rules::Carry;
-use tariff::Phase;
+use tariff::{Phase, Schedule};
 
 // The seven phase lists of a descriptor.
 // Stays: seven lists and no slice of phases, since their lengths may differ, which is refusal 5.
@@ -37,6 +37,19 @@ impl PhaseTable {
         PhaseTable {
             carry: Carry::start(),
             phases: [Phase::default(); 8],
+        }
+    }
+}
+
+// The first phases of a table, and how many it has.
+impl From<PhaseTable> for Schedule {
+    ghost from_gives = { λ table schedule. schedule ≡ schedule_in table };
+
+    fn from(table: PhaseTable) -> Schedule {
+        let PhaseTable { carry, phases } = table;
+        Schedule {
+            count: carry.count,
+            phases,
         }
     }
 }

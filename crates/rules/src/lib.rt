@@ -6,7 +6,7 @@ ghost use Rattle.rules.specs.Rules.{sound_em, sound_numbers, fits_in, sound_phas
 
 mod carrying;
 
-use tariff::Phase;
+use tariff::{Em, Phase};
 
 // What a list of phases leaves to carry to the next phase.
 #[derive(Clone, Copy, PartialEq, Eq, Debug)]
@@ -21,9 +21,10 @@ pub struct Carry {
 
 // Whether an em keeps its rule; a rate is alike, with count 0.
 #[tactic(auto, unfolding(crate::specs::Rules::distance_of, crate::specs::Rules::sound_em))]
-pub fn sound_em(spacing: u32, count: u32, period: u32) -> bool
-    ensures { result ≡ sound_em spacing count period }
+pub fn sound_em(spacing: u32, em: Em) -> bool
+    ensures { result ≡ sound_em spacing em.count em.period }
 {
+    let Em { count, period } = em;
     let distance = if count == 0 { period } else { period / count };
     count <= 65_535 && period <= 86_400_000 && 2 * u64::from(spacing) <= u64::from(distance)
 }
