@@ -19,10 +19,10 @@ pub data AfterSlot (a : List Phase) (n : ℕ) (q : Position) (p : Phase) (m : �
   next-slot : suc q.slot < m → AfterSlot a n q p m (timed (Phased (position q.phase q.entry q.left (q.slot + 1))) p.pri)
   next-interval : m ≤ suc q.slot → (1 ≤ q.left → p.ci < q.left)
       → AfterSlot a n q p m
-          (timed (Phased (position q.phase (next_entry p q.entry) (q.left - p.ci) 0)) (1000 * p.ci - q.slot * p.pri))
+      (timed (Phased (position q.phase (next_entry p q.entry) (q.left - p.ci) 0)) (1000 * p.ci - q.slot * p.pri))
   next-phase : m ≤ suc q.slot → 1 ≤ q.left → q.left ≤ p.ci → q.phase + 1 < n
       → AfterSlot a n q p m
-          (timed (Phased (phase_start (q.phase + 1) (phase_at a (q.phase + 1)))) (1000 * q.left - q.slot * p.pri))
+      (timed (Phased (phase_start (q.phase + 1) (phase_at a (q.phase + 1)))) (1000 * q.left - q.slot * p.pri))
   no-phase : m ≤ suc q.slot → 1 ≤ q.left → q.left ≤ p.ci → n ≤ q.phase + 1
       → AfterSlot a n q p m (timed Ending (1000 * q.left - q.slot * p.pri))
 
