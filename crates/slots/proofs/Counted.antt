@@ -1,4 +1,4 @@
--- An em with C > 0: slot k at k × P/C rounded down; the slots climb by at least P/C, and none lies between two neighbours.
+-- An em with C > 0: slot k at k × P/C rounded down; slots climb by at least P/C, and none lies between two neighbours.
 use Rattle.std.specs.Prelude.{None, Some}
 use mathlib.Core.Path.{◌≡◌, refl, sym, ◌∙◌, ap}
 use mathlib.Core.Bool.{false}

@@ -13,8 +13,8 @@ use Rattle.tariff.specs.declared.Position.{Position}
 use Rattle.tariff.specs.declared.Tariff.TheVariants.{Phased, Ending}
 use Rattle.tariff.specs.declared.Timed.{Timed}
 
--- after the slot of a position in phase p, in an interval of m pulses: the next slot of the interval, the next interval of
--- the phase, the next phase, or none
+-- after the slot of a position in phase p, in an interval of m pulses: the next slot of the interval, the next interval
+-- of the phase, the next phase, or none
 pub data AfterSlot (a : List Phase) (n : ℕ) (q : Position) (p : Phase) (m : ℕ) : Timed → Type 0 where
   next-slot : suc q.slot < m → AfterSlot a n q p m (timed (Phased (position q.phase q.entry q.left (q.slot + 1))) p.pri)
   next-interval : m ≤ suc q.slot → (1 ≤ q.left → p.ci < q.left)
