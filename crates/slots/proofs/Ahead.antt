@@ -9,7 +9,9 @@ use lib.ListN.{take, length}
 use Rattle.rules.specs.Rules.{sound_phases}
 use Rattle.tariff.specs.Tariffs.{phase_at, slot_left}
 use Rattle.steps.specs.Steps.{pulses_at}
+use Rattle.tariff.specs.declared.Em.{Em}
 use Rattle.tariff.specs.declared.Phase.{Phase}
+use Rattle.tariff.specs.declared.Position.{Position}
 use Rattle.tariff.specs.declared.Slot.{Slot}
 use Rattle.tariff.specs.declared.Tariff.{Tariff}
 use Rattle.tariff.specs.declared.Tariff.TheVariants.{Idle, Endless, Counted, Phased, Ending}
@@ -34,8 +36,9 @@ module _ (a : List Phase) (n : ℕ) where
   unfoldable pub slots_of : Tariff → ℕ → Option Slot
   slots_of Idle x = None
   slots_of (Endless P) x = endless_slot P x
-  slots_of (Counted C P k) x = counted_slot C P (x + k * P / C)
-  slots_of (Phased i e l j) x = phases_from (phase_at a i) (after a n i) e l (x + j * (phase_at a i).pri)
+  slots_of (Counted m k) x = counted_slot m.count m.period (x + k * m.period / m.count)
+  slots_of (Phased q) x =
+      phases_from (phase_at a q.phase) (after a n q.phase) q.entry q.left (x + q.slot * (phase_at a q.phase).pri)
   slots_of Ending x = None
 
   -- the slot y ticks from now
@@ -46,9 +49,12 @@ module _ (a : List Phase) (n : ℕ) where
   unfoldable pub completes_in : ℕ → Tariff → ℕ → ℕ → Bool
   completes_in D Idle w y = false
   completes_in D (Endless P) w y = false
-  completes_in D (Counted C P k) w y = eqb y (w + ((C - 1) * P / C - k * P / C) + D)
-  completes_in D (Phased i e l j) w y =
-      not (eqb l 0 || never_end (after a n i)) && eqb y (w + (1000 * l - j * (phase_at a i).pri) + 1000 * seconds (after a n i))
+  completes_in D (Counted m k) w y =
+      eqb y (w + ((m.count - 1) * m.period / m.count - k * m.period / m.count) + D)
+  completes_in D (Phased q) w y =
+      let rest = after a n q.phase in
+      not (eqb q.left 0 || never_end rest)
+      && eqb y (w + (1000 * q.left - q.slot * (phase_at a q.phase).pri) + 1000 * seconds rest)
   completes_in D Ending w y = eqb y w
 
 -- l seconds are left of a phase of pd seconds at the start of one of its intervals, 0 if it is endless
@@ -65,25 +71,25 @@ pub record EndlessGood (S P : ℕ) : Type 0 where
   pub far : 2 * S ≤ P
   pub most : P ≤ 86400000
 
-pub record CountedGood (S C P k : ℕ) : Type 0 where
-  pub few : k < C
-  pub count : C ≤ 65535
-  pub far : 2 * S ≤ P / C
-  pub most : P ≤ 86400000
+pub record CountedGood (S : ℕ) (m : Em) (k : ℕ) : Type 0 where
+  pub few : k < m.count
+  pub count : m.count ≤ 65535
+  pub far : 2 * S ≤ m.period / m.count
+  pub most : m.period ≤ 86400000
 
-pub record PhasedGood (S : ℕ) (a : List Phase) (n i e l j : ℕ) : Type 0 where
-  pub few : i < n
+pub record PhasedGood (S : ℕ) (a : List Phase) (n : ℕ) (q : Position) : Type 0 where
+  pub few : q.phase < n
   pub eight : n ≤ 8
   pub whole : n ≤ length a
   pub sound : sound_phases S (take n a) ≡ true
-  pub entry : e < (phase_at a i).repx + (phase_at a i).repn
-  pub left : Left (phase_at a i) l
-  pub pulse : j < max 1 (pulses_at (phase_at a i) e)
+  pub entry : q.entry < (phase_at a q.phase).repx + (phase_at a q.phase).repn
+  pub left : Left (phase_at a q.phase) q.left
+  pub pulse : q.slot < max 1 (pulses_at (phase_at a q.phase) q.entry)
 
 -- what holds of a tariff that commands can produce, and of its wait, on a line of spacing S
 abbrev pub Good : ℕ → List Phase → ℕ → Tariff → ℕ → Type 0
 Good S a n Idle w = Unit {0}
 Good S a n (Endless P) w = Waits w × EndlessGood S P
-Good S a n (Counted C P k) w = Waits w × CountedGood S C P k
-Good S a n (Phased i e l j) w = Waits w × PhasedGood S a n i e l j
+Good S a n (Counted m k) w = Waits w × CountedGood S m k
+Good S a n (Phased q) w = Waits w × PhasedGood S a n q
 Good S a n Ending w = Waits w

@@ -5,7 +5,7 @@ use mathlib.Core.List.{List}
 use mathlib.Core.Logic.{◌≢◌}
 use Prim.Native.Nat.{ℕ, zero, suc, ◌+◌, ◌-◌, ◌*◌, ◌≤◌, ◌<◌}
 use native.Mathlib.Omega.{arith}
-use Rattle.tariff.specs.Tariffs.{schedule_of}
+use Rattle.tariff.specs.Tariffs.{schedule_of, timed}
 use Rattle.steps.specs.Steps.{step_of}
 use Rattle.tariff.specs.declared.Phase.{Phase}
 use Rattle.tariff.specs.declared.Slot.{Slot}
@@ -33,10 +33,10 @@ module _ (S : ℕ) (a : List Phase) (n : ℕ) (spaced : 1 ≤ S) where
   ahead_apart zero y t w g first second l = omega (arith, far, from-begun (slots_of a n t') (next_of t' w') y later)
     where
       t' : Tariff
-      t' = (step_of 1 (schedule_of a n) t w).tariff
+      t' = (step_of 1 (schedule_of a n) (timed t w)).timed.tariff
 
       w' : ℕ
-      w' = (step_of 1 (schedule_of a n) t w).wait
+      w' = (step_of 1 (schedule_of a n) (timed t w)).timed.wait
 
       later : ahead a n t' w' y ≢ None
       later e = second (sym (step-slots S 1 a n spaced one-tick t w g y l) ∙ e)
@@ -51,7 +51,7 @@ module _ (S : ℕ) (a : List Phase) (n : ℕ) (spaced : 1 ≤ S) where
       let on = step-slots S 1 a n spaced one-tick t w g in
       omega (
         arith,
-        ahead_apart x y (step_of 1 (schedule_of a n) t w).tariff (step_of 1 (schedule_of a n) t w).wait (good-step S 1 a n spaced one-tick t w g)
+        ahead_apart x y (step_of 1 (schedule_of a n) (timed t w)).timed.tariff (step_of 1 (schedule_of a n) (timed t w)).timed.wait (good-step S 1 a n spaced one-tick t w g)
             (λ e. first (sym (on (suc x) (omega arith)) ∙ e))
             (λ e. second (sym (on (suc y) (omega arith)) ∙ e))
             (omega arith),

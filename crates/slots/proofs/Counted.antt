@@ -1,4 +1,4 @@
--- An em with C > 0: slot k at k × P/C rounded down; the slots climb by at least P/C, and none lies between two neighbours.
+-- An em with C > 0: slot k at k × P/C rounded down; slots climb by at least P/C, and none lies between two neighbours.
 use Rattle.std.specs.Prelude.{None, Some}
 use mathlib.Core.Path.{◌≡◌, refl, sym, ◌∙◌, ap}
 use mathlib.Core.Bool.{false}
@@ -11,11 +11,13 @@ use native.Mathlib.Omega.{arith}
 use borrow.Table.Steps.{cases}
 use borrow.Author.Tests.{eq-eqb, ne_eqb, ltb-true, ltb-false}
 use lib.Dec.{ltb, eqb}
+use Rattle.tariff.specs.Tariffs.{em}
 use Rattle.steps.specs.Steps.{distance_after, after_counted}
+use Rattle.tariff.specs.declared.Em.{Em}
 use Rattle.tariff.specs.declared.Phase.{Phase}
 use Rattle.tariff.specs.declared.Slot.TheVariants.{Pulse}
 use Rattle.tariff.specs.declared.Tariff.TheVariants.{Counted}
-use Rattle.steps.specs.declared.Waiting.{Waiting}
+use Rattle.tariff.specs.declared.Timed.{Timed}
 use Rattle.slots.specs.Slots.{counted_slot}
 use Rattle.slots.specs.Slots.{from}
 use Rattle.std.proofs.lemmas.Bool.{cases_lt}
@@ -24,7 +26,7 @@ use Rattle.slots.proofs.From.{from_is, from-none}
 use Rattle.slots.proofs.Ahead.{Good, Waits, next_of, slots_of, ahead, completes_in}
 
 -- slot 0 is at the origin
-pub counted_start : (a : List Phase) (n C P x : ℕ) → slots_of a n (Counted C P 0) x ≡ counted_slot C P x
+pub counted_start : (a : List Phase) (n C P x : ℕ) → slots_of a n (Counted (em C P) 0) x ≡ counted_slot C P x
 unfolding slots_of
 counted_start a n C P x = ap (counted_slot C P) (omega arith)
 
@@ -71,16 +73,24 @@ counted_next C P k y few l =
     (λ before. counted_none C P k (y + k * P / C) few (omega arith) (λ more. omega arith))
 
 -- it does not complete up to its next slot
-pub counted_open : (D : ℕ) (a : List Phase) (n C P k w y : ℕ) → 1 ≤ D → y ≤ w → completes_in a n D (Counted C P k) w y ≡ false
+pub counted_open : (D : ℕ) (a : List Phase) (n : ℕ) (m : Em) (k w y : ℕ) → 1 ≤ D → y ≤ w
+    → completes_in a n D (Counted m k) w y ≡ false
 unfolding completes_in
-counted_open D a n C P k w y lasts l = ne_eqb y (w + ((C - 1) * P / C - k * P / C) + D) (λ e. omega arith)
+counted_open D a n m k w y lasts l =
+    ne_eqb y (w + ((m.count - 1) * m.period / m.count - k * m.period / m.count) + D) (λ e. omega arith)
 
 -- what is ahead once slot k is past
-module _ (D : ℕ) (a : List Phase) (n C P k : ℕ) (few : k < C) where
-  abbrev later : Waiting
-  later = after_counted D C P k
+module _ (D : ℕ) (a : List Phase) (n : ℕ) (m : Em) (k : ℕ) (few : k < m.count) where
+  abbrev C : ℕ
+  C = m.count
 
-  pub counted-rest : (y : ℕ) → 1 ≤ y → ahead a n later.tariff later.wait y ≡ slots_of a n (Counted C P k) y
+  abbrev P : ℕ
+  P = m.period
+
+  abbrev later : Timed
+  later = after_counted D m k
+
+  pub counted-rest : (y : ℕ) → 1 ≤ y → ahead a n later.tariff later.wait y ≡ slots_of a n (Counted m k) y
   unfolding after_counted slots_of
   counted-rest y l = cases (ltb (k + 1) C) (λ b. rw b (counted_next C P k y few l)) (λ b. rw b (last (ltb-false (k + 1) C b)))
     where
@@ -89,18 +99,18 @@ module _ (D : ℕ) (a : List Phase) (n C P k : ℕ) (few : k < C) where
           from-none (λ x. None) 0 y (λ x. refl)
           ∙ sym (counted_none C P k (y + k * P / C) few (omega arith) (λ more. absurd (omega arith)))
 
-  pub counted-ends : (y : ℕ) → completes_in a n D later.tariff later.wait y ≡ completes_in a n D (Counted C P k) 1 (suc y)
+  pub counted-ends : (y : ℕ) → completes_in a n D later.tariff later.wait y ≡ completes_in a n D (Counted m k) 1 (suc y)
   unfolding after_counted distance_after completes_in
   counted-ends y = cases (ltb (k + 1) C) (λ b. rw b (more (ltb-true (k + 1) C b))) (λ b. rw b (last (ltb-false (k + 1) C b)))
     where
       more : k + 1 < C
-          → completes_in a n D (Counted C P (k + 1)) (distance_after C P k) y ≡ completes_in a n D (Counted C P k) 1 (suc y)
+          → completes_in a n D (Counted m (k + 1)) (distance_after C P k) y ≡ completes_in a n D (Counted m k) 1 (suc y)
       more further =
           let here = slot_mono C P k (k + 1) (omega arith) (omega arith) in
           let there = slot_mono C P (k + 1) (C - 1) (omega arith) (omega arith) in
           grind arith
 
-      last : C ≤ k + 1 → eqb y D ≡ completes_in a n D (Counted C P k) 1 (suc y)
+      last : C ≤ k + 1 → eqb y D ≡ completes_in a n D (Counted m k) 1 (suc y)
       last end =
           let e : C - 1 ≡ k = omega arith in
           rw e (grind arith)

@@ -29,8 +29,8 @@ module _ (S D : ℕ) (a : List Phase) (n : ℕ) where
   unfolding slots_of due_of
   first_slot Idle w g = refl
   first_slot (Endless P) w g = endless-zero P
-  first_slot (Counted C P k) w g = rw (zero-add (k * P / C)) (counted-pulse C P k g.1.few)
-  first_slot (Phased i e l j) w g = phased-zero S a n i e l j g.1
+  first_slot (Counted m k) w g = rw (zero-add (k * m.period / m.count)) (counted-pulse m.count m.period k g.1.few)
+  first_slot (Phased q) w g = phased-zero S a n q g.1
   first_slot Ending w g = refl
 
   pub due-slot : (t : Tariff) (w : ℕ) → Good S a n t w → w ≤ 1 → ahead a n t w 1 ≡ (due_of D (schedule_of a n) t).slot
@@ -38,57 +38,57 @@ module _ (S D : ℕ) (a : List Phase) (n : ℕ) where
 
   -- the slots after it
   due-rest : (t : Tariff) (w : ℕ) → Good S a n t w → (y : ℕ) → 1 ≤ y
-      → ahead a n (due_of D (schedule_of a n) t).tariff (due_of D (schedule_of a n) t).wait y ≡ slots_of a n t y
+      → ahead a n (due_of D (schedule_of a n) t).timed.tariff (due_of D (schedule_of a n) t).timed.wait y ≡ slots_of a n t y
   unfolding slots_of due_of
   due-rest Idle w g y l = none_left S a n Idle 0 tt refl y
   due-rest (Endless P) w g y l = endless-rest P y l
-  due-rest (Counted C P k) w g y l = counted-rest D a n C P k g.1.few y l
-  due-rest (Phased i e p j) w g y l = rest-after S a n i e p j g.1 y l (after-slot a n i e p j _ _)
+  due-rest (Counted m k) w g y l = counted-rest D a n m k g.1.few y l
+  due-rest (Phased q) w g y l = rest-after S a n q g.1 y l (after-slot a n q _ _)
   due-rest Ending w g y l = none_left S a n Idle 0 tt refl y
 
   pub due-slots : (t : Tariff) (w : ℕ) → Good S a n t w → w ≤ 1 → (y : ℕ) → 1 ≤ y
-      → ahead a n (due_of D (schedule_of a n) t).tariff (due_of D (schedule_of a n) t).wait y ≡ ahead a n t w (suc y)
+      → ahead a n (due_of D (schedule_of a n) t).timed.tariff (due_of D (schedule_of a n) t).timed.wait y ≡ ahead a n t w (suc y)
   due-slots t w g due y l = due-rest t w g y l ∙ sym (past-due S a n t w g due y)
 
   pub due-ends : (t : Tariff) (w : ℕ) → Good S a n t w → w ≤ 1 → (y : ℕ) → 1 ≤ y
-      → completes_in a n D (due_of D (schedule_of a n) t).tariff (due_of D (schedule_of a n) t).wait y ≡ completes_in a n D t w (suc y)
+      → completes_in a n D (due_of D (schedule_of a n) t).timed.tariff (due_of D (schedule_of a n) t).timed.wait y ≡ completes_in a n D t w (suc y)
   unfolding completes_in due_of
   due-ends Idle w g due y l = refl
   due-ends (Endless P) w g due y l = refl
-  due-ends (Counted C P k) w g due y l =
+  due-ends (Counted m k) w g due y l =
       let one : w ≡ 1 = omega (arith, g.0) in
-      rw one (counted-ends D a n C P k g.1.few y)
-  due-ends (Phased i e p j) w g due y l =
+      rw one (counted-ends D a n m k g.1.few y)
+  due-ends (Phased q) w g due y l =
       let one : w ≡ 1 = omega (arith, g.0) in
-      rw one (ends-after S a n i e p j D g.1 y (after-slot a n i e p j _ _))
+      rw one (ends-after S a n q D g.1 y (after-slot a n q _ _))
   due-ends Ending w g due y l = sym (ne_eqb (suc y) w (λ e. omega arith))
 
   pub due_end : 1 ≤ D → (t : Tariff) (w : ℕ) → Good S a n t w → w ≤ 1 → completes_in a n D t w 1 ≡ (due_of D (schedule_of a n) t).complete
   unfolding completes_in due_of
   due_end lasts Idle w g due = refl
   due_end lasts (Endless P) w g due = refl
-  due_end lasts (Counted C P k) w g due = counted_open D a n C P k w 1 lasts g.0.some
-  due_end lasts (Phased i e l j) w g due = open_before S a n i e l j D g.1 1 w g.0.some
+  due_end lasts (Counted m k) w g due = counted_open D a n m k w 1 lasts g.0.some
+  due_end lasts (Phased q) w g due = open_before S a n q D g.1 1 w g.0.some
   due_end lasts Ending w g due = eq-eqb 1 w (omega arith)
 
   module _ (spaced : 1 ≤ S) (lasts : Waits D) where
-    pub due-good : (t : Tariff) (w : ℕ) → Good S a n t w → Good S a n (due_of D (schedule_of a n) t).tariff (due_of D (schedule_of a n) t).wait
+    pub due-good : (t : Tariff) (w : ℕ) → Good S a n t w → Good S a n (due_of D (schedule_of a n) t).timed.tariff (due_of D (schedule_of a n) t).timed.wait
     unfolding due_of
     due-good Idle w g = tt
     due-good (Endless P) w g = omega (arith, g.1)
-    due-good (Counted C P k) w g = counted-good D a n C P k g.1.few S spaced g.1.far lasts g.1.count g.1.most
-    due-good (Phased i e l j) w g = good-after S a n i e l j spaced g.1 (after-slot a n i e l j _ _)
+    due-good (Counted m k) w g = counted-good D a n m k g.1.few S spaced g.1.far lasts g.1.count g.1.most
+    due-good (Phased q) w g = good-after S a n q spaced g.1 (after-slot a n q _ _)
     due-good Ending w g = tt
 
     pub due-next : (t : Tariff) (w : ℕ) → Good S a n t w → w ≤ 1
-        → Next S (next_of t w) (next_of (due_of D (schedule_of a n) t).tariff (due_of D (schedule_of a n) t).wait) (due_of D (schedule_of a n) t).slot
+        → Next S (next_of t w) (next_of (due_of D (schedule_of a n) t).timed.tariff (due_of D (schedule_of a n) t).timed.wait) (due_of D (schedule_of a n) t).slot
     unfolding due_of
     due-next Idle w g due = waits (λ e. omega arith) refl
     due-next (Endless P) w g due = pulse (omega (arith, g.0)) (λ left. g.1.far)
-    due-next (Counted C P k) w g due =
-        pulse (omega (arith, g.0)) (counted-far D a n C P k g.1.few S spaced g.1.far)
-    due-next (Phased i e l j) w g due =
+    due-next (Counted m k) w g due =
+        pulse (omega (arith, g.0)) (counted-far D a n m k g.1.few S spaced g.1.far)
+    due-next (Phased q) w g due =
         let one : w ≡ 1 = omega (arith, g.0) in
-        let far = far-after S a n i e l j spaced g.1 (after-slot a n i e l j _ _) in
-        cases (eqb (pulses_at (phase_at a i) e) 0) (λ b. rw b (empty one far)) (λ b. rw b (pulse one far))
+        let far = far-after S a n q spaced g.1 (after-slot a n q _ _) in
+        cases (eqb (pulses_at (phase_at a q.phase) q.entry) 0) (λ b. rw b (empty one far)) (λ b. rw b (pulse one far))
     due-next Ending w g due = waits (λ e. omega arith) refl

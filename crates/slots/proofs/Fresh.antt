@@ -5,7 +5,7 @@ use mathlib.Core.List.{List}
 use Prim.Native.Nat.{ℕ, zero, suc, ◌+◌, ◌≤◌}
 use native.Mathlib.Omega.{arith}
 use lib.ListN.{take, length}
-use Rattle.tariff.specs.Tariffs.{em_of, phased_of}
+use Rattle.tariff.specs.Tariffs.{em, em_of, phased_of}
 use Rattle.tariff.specs.declared.Phase.{Phase}
 use Rattle.tariff.specs.declared.Tariff.TheVariants.{Idle, Counted}
 use Rattle.slots.specs.Slots.{endless_slot, counted_slot, phased_slot, never_end}
@@ -37,7 +37,7 @@ module _ (D : ℕ) (a : List Phase) (n : ℕ) where
       let C = suc c in
       let same = counted_start a n C P in
       record {
-        slots = λ y _. from-same (counted_slot C P) (slots_of a n (Counted C P 0)) (i + w) (i + y) w y same (omega arith);
+        slots = λ y _. from-same (counted_slot C P) (slots_of a n (Counted (em C P) 0)) (i + w) (i + y) w y same (omega arith);
         ends = λ y _. grind arith;
         rate = other refl refl;
       }

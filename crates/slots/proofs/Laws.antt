@@ -11,7 +11,7 @@ use borrow.Table.Steps.{cases}
 use lib.ListN.{length}
 use lib.Seq.{take-length}
 use Rattle.rules.specs.Rules.{sound_em, sound_phases}
-use Rattle.tariff.specs.Tariffs.{em_of, phased_of}
+use Rattle.tariff.specs.Tariffs.{em, em_of, phased_of}
 use Rattle.tariff.specs.declared.Phase.{Phase}
 use Rattle.tariff.specs.declared.Slot.{Slot}
 use Rattle.tariff.specs.declared.Slot.TheVariants.{Empty, Pulse}
@@ -42,7 +42,7 @@ slots_apart S r t u spaced (endless-em f P ok) first second l =
     second l
 slots_apart S r t u spaced (counted-em f zero P some ok) first second l = absurd (omega arith)
 slots_apart S r t u spaced (counted-em f (suc c) P some ok) first second l =
-    from-apart S [] 0 spaced (counted_slot (suc c) P) (Counted (suc c) P 0) (good-em S [] 0 (suc c) P 1 ok (omega arith))
+    from-apart S [] 0 spaced (counted_slot (suc c) P) (Counted (em (suc c) P) 0) (good-em S [] 0 (suc c) P 1 ok (omega arith))
     (counted_start [] 0 (suc c) P) f t u first second l
 slots_apart S r t u spaced (phases f ps some eight ok) first second l =
     let n = length ps in

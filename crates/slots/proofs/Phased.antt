@@ -12,6 +12,7 @@ use Rattle.rules.specs.Rules.{sound_phases}
 use Rattle.tariff.specs.Tariffs.{phase_at, phased_of}
 use Rattle.steps.specs.Steps.{pulses_at}
 use Rattle.tariff.specs.declared.Phase.{Phase}
+use Rattle.tariff.specs.declared.Position.{Position}
 use Rattle.tariff.specs.declared.Slot.TheVariants.{Empty, Pulse}
 use Rattle.tariff.specs.declared.Tariff.TheVariants.{Phased}
 use Rattle.slots.specs.Slots.{phased_slot, never_end, seconds}
@@ -25,11 +26,12 @@ use Rattle.slots.proofs.PhasedKept.{left-whole}
 
 -- ---- a slot that is due now
 
-pub phased-zero : (S : ℕ) (a : List Phase) (n i e l j : ℕ) → PhasedGood S a n i e l j
-    → slots_of a n (Phased i e l j) 0 ≡ Some (cond (eqb (pulses_at (phase_at a i) e) 0) Empty Pulse)
+pub phased-zero : (S : ℕ) (a : List Phase) (n : ℕ) (q : Position) → PhasedGood S a n q
+    → slots_of a n (Phased q) 0 ≡ Some (cond (eqb (pulses_at (phase_at a q.phase) q.entry) 0) Empty Pulse)
 unfolding slots_of
-phased-zero S a n i e l j good =
-    rw (zero-add (j * (phase_at a i).pri)) (slot-now S (phase_at a i) (after a n i) e l j (room_of_lem S a n i e l j good) good.pulse)
+phased-zero S a n q good =
+    let p = phase_at a q.phase in
+    rw (zero-add (q.slot * p.pri)) (slot-now S p (after a n q.phase) q (room_of_lem S a n q good) good.pulse)
 
 -- ---- the start
 

@@ -9,6 +9,7 @@ use native.Mathlib.Omega.{arith}
 use Rattle.tariff.specs.Tariffs.{phase_at}
 use Rattle.steps.specs.Steps.{pulses_at}
 use Rattle.tariff.specs.declared.Phase.{Phase}
+use Rattle.tariff.specs.declared.Position.{Position}
 use Rattle.slots.specs.Slots.{interval_pulses}
 use Rattle.slots.proofs.Ahead.{Left, PhasedGood}
 use Rattle.slots.proofs.PhasedSound.{SoundPhase, sound-at}
@@ -32,22 +33,25 @@ slot-room m pcx q j ticks most h room =
 pub slot-before : (j q ticks : ℕ) → suc j * q ≤ ticks → 1 ≤ ticks → j * q < ticks
 slot-before j q ticks room some = grind arith
 
--- before slot j of an interval with map entry e, l seconds before the end of the phase
-pub record Room (S : ℕ) (p : Phase) (e l j : ℕ) : Type 0 where
+-- before the slot of a position in a phase, which is p
+pub record Room (S : ℕ) (p : Phase) (q : Position) : Type 0 where
   pub sound : SoundPhase S p
-  pub pulses : pulses_at p e ≡ interval_pulses p e
-  pub interval : suc j * p.pri ≤ 1000 * p.ci
-  pub phase : 1 ≤ l → suc j * p.pri ≤ 1000 * l
+  pub pulses : pulses_at p q.entry ≡ interval_pulses p q.entry
+  pub interval : suc q.slot * p.pri ≤ 1000 * p.ci
+  pub phase : 1 ≤ q.left → suc q.slot * p.pri ≤ 1000 * q.left
 
-pub room_of_lem : (S : ℕ) (a : List Phase) (n i e l j : ℕ) → PhasedGood S a n i e l j → Room S (phase_at a i) e l j
-room_of_lem S a n i e l j good =
-    let p = phase_at a i in
-    let sound = sound-at S a n i good.few good.eight good.whole good.sound in
-    let pulses = entry-pulses p e sound.hundred good.entry in
-    let most : pulses_at p e ≤ p.pcx = omega (arith, pulses, pulses-most p e sound.fewer) in
+pub room_of_lem : (S : ℕ) (a : List Phase) (n : ℕ) (q : Position) → PhasedGood S a n q → Room S (phase_at a q.phase) q
+room_of_lem S a n q good =
+    let p = phase_at a q.phase in
+    let sound = sound-at S a n q.phase good.few good.eight good.whole good.sound in
+    let m = pulses_at p q.entry in
+    let pulses = entry-pulses p q.entry sound.hundred good.entry in
+    let most : m ≤ p.pcx = omega (arith, pulses, pulses-most p q.entry sound.fewer) in
     record {
       sound = sound;
       pulses = pulses;
-      interval = slot-room (pulses_at p e) p.pcx p.pri j (1000 * p.ci) most good.pulse sound.room;
-      phase = λ some. slot-room (pulses_at p e) p.pcx p.pri j (1000 * l) most good.pulse (left-room S p l sound good.left some);
+      interval = slot-room m p.pcx p.pri q.slot (1000 * p.ci) most good.pulse sound.room;
+      phase =
+          λ some. slot-room m p.pcx p.pri q.slot (1000 * q.left) most good.pulse
+          (left-room S p q.left sound good.left some);
     }

@@ -6,12 +6,14 @@ use Prim.Native.Nat.{ℕ, ◌+◌, ◌≤◌}
 use native.Mathlib.Omega.{arith}
 use borrow.Table.Steps.{cases}
 use lib.Dec.{ltb}
-use Rattle.tariff.specs.Tariffs.{phase_at, schedule_of, em_of, rate_of, is_endless}
+use Rattle.tariff.specs.Tariffs.{phase_at, schedule_of, em_of, rate_of, is_endless, timed}
 use Rattle.steps.specs.Steps.{pulses_at, after_counted, due_of, step_of}
+use Rattle.tariff.specs.declared.Em.{Em}
 use Rattle.tariff.specs.declared.Phase.{Phase}
+use Rattle.tariff.specs.declared.Position.{Position}
 use Rattle.tariff.specs.declared.Tariff.{Tariff}
 use Rattle.tariff.specs.declared.Tariff.TheVariants.{Idle, Endless, Counted, Phased, Ending}
-use Rattle.steps.specs.declared.Waiting.{Waiting}
+use Rattle.tariff.specs.declared.Timed.{Timed}
 use Rattle.slots.specs.Slots.{Running, runs_endless, rated}
 use Rattle.slots.proofs.Ahead.{Good}
 use Rattle.slots.proofs.Agree.{Agree, SameRate, steady, other}
@@ -21,35 +23,36 @@ use Rattle.slots.proofs.Step.{by-step}
 use Rattle.slots.proofs.Fresh.{agree-em}
 
 -- no other kind turns into an em with C = 0
-counted-other : (D C P k : ℕ) → is_endless (after_counted D C P k).tariff ≡ false
+counted-other : (D : ℕ) (m : Em) (k : ℕ) → is_endless (after_counted D m k).tariff ≡ false
 unfolding after_counted
-counted-other D C P k = cases (ltb (k + 1) C) (λ b. rw b) (λ b. rw b)
+counted-other D m k = cases (ltb (k + 1) m.count) (λ b. rw b) (λ b. rw b)
 
-phased-other : {a : List Phase} {n i e l j m : ℕ} {p : Phase} {x : Waiting} → AfterSlot a n i e l j p m x → is_endless x.tariff ≡ false
+phased-other : {a : List Phase} {n m : ℕ} {q : Position} {p : Phase} {x : Timed} → AfterSlot a n q p m x
+    → is_endless x.tariff ≡ false
 phased-other (next-slot more) = refl
 phased-other (next-interval last more) = refl
 phased-other (next-phase last some short further) = refl
 phased-other (no-phase last some short end) = refl
 
 module _ (D : ℕ) (a : List Phase) (n : ℕ) where
-  due-other : (t : Tariff) → is_endless t ≡ false → is_endless (due_of D (schedule_of a n) t).tariff ≡ false
+  due-other : (t : Tariff) → is_endless t ≡ false → is_endless (due_of D (schedule_of a n) t).timed.tariff ≡ false
   unfolding due_of
   due-other Idle o = refl
   due-other (Endless P) o = o
-  due-other (Counted C P k) o = counted-other D C P k
-  due-other (Phased i e l j) o = phased-other (after-slot a n i e l j (phase_at a i) (pulses_at (phase_at a i) e))
+  due-other (Counted m k) o = counted-other D m k
+  due-other (Phased q) o = phased-other (after-slot a n q (phase_at a q.phase) (pulses_at (phase_at a q.phase) q.entry))
   due-other Ending o = refl
 
   -- a tick on
   pub rate-tick : (S : ℕ) (r : Running) (t : Tariff) (w i : ℕ) → 1 ≤ S → Good S a n t w → SameRate i r t w
-      → SameRate (i + 1) r (step_of D (schedule_of a n) t w).tariff (step_of D (schedule_of a n) t w).wait
+      → SameRate (i + 1) r (step_of D (schedule_of a n) (timed t w)).timed.tariff (step_of D (schedule_of a n) (timed t w)).timed.wait
   unfolding due_of
   rate-tick S r t w i spaced g (steady {f = f} {P = P} e) =
-      by-step D a n (Endless P) w (λ s. SameRate (i + 1) r s.tariff s.wait)
+      by-step D a n (Endless P) w (λ s. SameRate (i + 1) r s.timed.tariff s.timed.wait)
       (λ due. steady (first-due f P i (omega (arith, g.1.far)) (e ∙ omega (arith, g.0))))
       (λ more. steady (first-waits f P i w more e ∙ omega arith))
   rate-tick S r t w i spaced g (other p q) =
-      by-step D a n t w (λ s. SameRate (i + 1) r s.tariff s.wait) (λ due. other p (due-other t q)) (λ more. other p q)
+      by-step D a n t w (λ s. SameRate (i + 1) r s.timed.tariff s.timed.wait) (λ due. other p (due-other t q)) (λ more. other p q)
 
   -- after a change
   rate-changes : (S : ℕ) (r : Running) (t : Tariff) (w i P : ℕ) → Good S a n t w → SameRate i r t w → is_endless t ≡ true

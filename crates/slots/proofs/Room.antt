@@ -9,7 +9,7 @@ use native.Mathlib.Omega.{arith}
 use borrow.Table.Steps.{cases}
 use borrow.Author.Tests.{eq-eqb, ne_eqb, le-leb, lt-leb}
 use lib.Dec.{leb, eqb}
-use Rattle.tariff.specs.Tariffs.{schedule_of, room_of}
+use Rattle.tariff.specs.Tariffs.{schedule_of, room_of, timed}
 use Rattle.steps.specs.Steps.{due_of}
 use Rattle.tariff.specs.declared.Phase.{Phase}
 use Rattle.tariff.specs.declared.Tariff.{Tariff}
@@ -25,11 +25,11 @@ use Rattle.slots.proofs.Laws.{NextSlot, next-unique, quiet-room}
 
 -- room by the ticks to the next slot
 pub room_next : (S : ℕ) (a : List Phase) (n : ℕ) (t : Tariff) (w : ℕ) → Good S a n t w
-    → room_of S t w ≡ (eqb (next_of t w) 0 || leb S (next_of t w))
+    → room_of S (timed t w) ≡ (eqb (next_of t w) 0 || leb S (next_of t w))
 room_next S a n Idle w g = refl
 room_next S a n (Endless P) w g = rw (ne_eqb w 0 (λ e. omega (arith, g.0)))
-room_next S a n (Counted C P k) w g = rw (ne_eqb w 0 (λ e. omega (arith, g.0)))
-room_next S a n (Phased i e l j) w g = rw (ne_eqb w 0 (λ z. omega (arith, g.0)))
+room_next S a n (Counted m k) w g = rw (ne_eqb w 0 (λ e. omega (arith, g.0)))
+room_next S a n (Phased q) w g = rw (ne_eqb w 0 (λ z. omega (arith, g.0)))
 room_next S a n Ending w g = refl
 
 -- where a slot is left, it waits for one
@@ -37,8 +37,8 @@ some-due : (D : ℕ) (a : List Phase) (n : ℕ) (t : Tariff) (w : ℕ) → 1 ≤
 unfolding due_of
 some-due D a n Idle w l = absurd (omega arith)
 some-due D a n (Endless P) w l = refl
-some-due D a n (Counted C P k) w l = refl
-some-due D a n (Phased i e p j) w l = refl
+some-due D a n (Counted m k) w l = refl
+some-due D a n (Phased q) w l = refl
 some-due D a n Ending w l = absurd (omega arith)
 
 module _ (S D : ℕ) (a : List Phase) (n : ℕ) (r : Running) (t : Tariff) (w i : ℕ) (g : Good S a n t w)
@@ -82,7 +82,7 @@ module _ (S D : ℕ) (a : List Phase) (n : ℕ) (r : Running) (t : Tariff) (w i 
   quiet_ever left = (quiet-room S r i).1 (λ u next. absurd (next.slot (next-none left u next.later)))
 
   -- the line knows whether now + S is past the next slot
-  pub agree-room : quiet_for r i (S - 1) ≡ room_of S t w
+  pub agree-room : quiet_for r i (S - 1) ≡ room_of S (timed t w)
   agree-room =
       ⊎_elim
       (λ e. quiet_ever e ∙ sym (room_next S a n t w g ∙ rw (eq-eqb (next_of t w) 0 e)))

@@ -23,8 +23,8 @@ module _ (S : ℕ) (a : List Phase) (n : ℕ) where
   unfolding em_of rate_of
   good-rate P Idle w ok g = g
   good-rate P (Endless Q) w ok g = good-em 0 P w ok g.0
-  good-rate P (Counted C Q k) w ok g = g
-  good-rate P (Phased i e l j) w ok g = g
+  good-rate P (Counted m k) w ok g = g
+  good-rate P (Phased q) w ok g = g
   good-rate P Ending w ok g = g
 
 -- the next slot of a fresh tariff is at its origin, and a rate leaves it
@@ -41,6 +41,6 @@ pub next-rate : (P : ℕ) (t : Tariff) (w : ℕ) → next_of (rate_of P t) w ≡
 unfolding rate_of
 next-rate P Idle w = refl
 next-rate P (Endless Q) w = refl
-next-rate P (Counted C Q k) w = refl
-next-rate P (Phased i e l j) w = refl
+next-rate P (Counted m k) w = refl
+next-rate P (Phased q) w = refl
 next-rate P Ending w = refl

@@ -8,8 +8,8 @@ use native.Mathlib.Omega.{arith}
 use borrow.Table.Steps.{cases}
 use borrow.Author.Tests.{ltb-true, ltb-false}
 use lib.Dec.{ltb}
-use Rattle.tariff.specs.Tariffs.{schedule_of}
-use Rattle.steps.specs.Steps.{waiting, stepped, due_of, step_of}
+use Rattle.tariff.specs.Tariffs.{schedule_of, timed}
+use Rattle.steps.specs.Steps.{stepped, due_of, step_of}
 use Rattle.tariff.specs.declared.Phase.{Phase}
 use Rattle.tariff.specs.declared.Slot.{Slot}
 use Rattle.steps.specs.declared.Stepped.{Stepped}
@@ -21,7 +21,7 @@ use Rattle.slots.proofs.Ahead.{Waits, Good, next_of, slots_of, ahead}
 
 -- what holds of both ways holds of the tick
 pub by-step : (D : ℕ) (a : List Phase) (n : ℕ) (t : Tariff) (w : ℕ) (Q : Stepped → Type 0) → (w ≤ 1 → Q (due_of D (schedule_of a n) t))
-    → (1 < w → Q (stepped (waiting t (w - 1)) None false)) → Q (step_of D (schedule_of a n) t w)
+    → (1 < w → Q (stepped (timed t (w - 1)) None false)) → Q (step_of D (schedule_of a n) (timed t w))
 unfolding step_of
 by-step D a n t w Q at-due at-wait =
     cases (ltb 1 w) (λ b. rw b (at-wait (ltb-true 1 w b))) (λ b. rw b (at-due (ltb-false 1 w b)))
@@ -31,8 +31,8 @@ pub ahead-is : (a : List Phase) (n : ℕ) (t : Tariff) (w y : ℕ) → ahead a n
 unfolding slots_of
 ahead-is a n Idle w y = from-none (λ _. None) 0 y (λ x. refl) ∙ sym (from-none (λ _. None) w y (λ x. refl))
 ahead-is a n (Endless P) w y = refl
-ahead-is a n (Counted C P k) w y = refl
-ahead-is a n (Phased i e l j) w y = refl
+ahead-is a n (Counted m k) w y = refl
+ahead-is a n (Phased q) w y = refl
 ahead-is a n Ending w y = from-none (λ _. None) 0 y (λ x. refl) ∙ sym (from-none (λ _. None) w y (λ x. refl))
 
 -- no slot is left
@@ -41,8 +41,8 @@ pub none_left : (S : ℕ) (a : List Phase) (n : ℕ) (t : Tariff) (w : ℕ) → 
 unfolding slots_of
 none_left S a n Idle w g left y = from-none (λ _. None) 0 y (λ x. refl)
 none_left S a n (Endless P) w g left y = absurd (omega (arith, g.0))
-none_left S a n (Counted C P k) w g left y = absurd (omega (arith, g.0))
-none_left S a n (Phased i e l j) w g left y = absurd (omega (arith, g.0))
+none_left S a n (Counted m k) w g left y = absurd (omega (arith, g.0))
+none_left S a n (Phased q) w g left y = absurd (omega (arith, g.0))
 none_left S a n Ending w g left y = from-none (λ _. None) 0 y (λ x. refl)
 
 -- once the wait is over, the slots are those of its kind
@@ -54,6 +54,6 @@ pub past-due : (S : ℕ) (a : List Phase) (n : ℕ) (t : Tariff) (w : ℕ) → G
 unfolding slots_of
 past-due S a n Idle w g due y = none_left S a n Idle w g refl (suc y)
 past-due S a n (Endless P) w g due y = begun (slots_of a n (Endless P)) w y g.0 due
-past-due S a n (Counted C P k) w g due y = begun (slots_of a n (Counted C P k)) w y g.0 due
-past-due S a n (Phased i e l j) w g due y = begun (slots_of a n (Phased i e l j)) w y g.0 due
+past-due S a n (Counted m k) w g due y = begun (slots_of a n (Counted m k)) w y g.0 due
+past-due S a n (Phased q) w g due y = begun (slots_of a n (Phased q)) w y g.0 due
 past-due S a n Ending w g due y = none_left S a n Ending w g refl (suc y)

@@ -42,23 +42,23 @@ module _ (a : List Phase) (n : ℕ) where
   unfolding completes_in
   wait-ends D Idle w more y = refl
   wait-ends D (Endless P) w more y = refl
-  wait-ends D (Counted C P k) w more y = grind arith
-  wait-ends D (Phased i e l j) w more y =
-      ap (λ (b : Bool). not (eqb l 0 || never_end (after a n i)) && b) (grind arith)
+  wait-ends D (Counted m k) w more y = grind arith
+  wait-ends D (Phased q) w more y =
+      ap (λ (b : Bool). not (eqb q.left 0 || never_end (after a n q.phase)) && b) (grind arith)
   wait-ends D Ending w more y = grind arith
 
   module _ (S : ℕ) where
     pub wait-good : (t : Tariff) (w : ℕ) → Good S a n t w → 1 < w → Good S a n t (w - 1)
     wait-good Idle w g more = tt
     wait-good (Endless P) w g more = (nearer w g.0 more, g.1)
-    wait-good (Counted C P k) w g more = (nearer w g.0 more, g.1)
-    wait-good (Phased i e l j) w g more = (nearer w g.0 more, g.1)
+    wait-good (Counted m k) w g more = (nearer w g.0 more, g.1)
+    wait-good (Phased q) w g more = (nearer w g.0 more, g.1)
     wait-good Ending w g more = nearer w g more
 
     pub wait_end : (D : ℕ) → 1 ≤ D → (t : Tariff) (w : ℕ) → Good S a n t w → 1 < w → completes_in a n D t w 1 ≡ false
     unfolding completes_in
     wait_end D lasts Idle w g more = refl
     wait_end D lasts (Endless P) w g more = refl
-    wait_end D lasts (Counted C P k) w g more = counted_open D a n C P k w 1 lasts (omega arith)
-    wait_end D lasts (Phased i e l j) w g more = open_before S a n i e l j D g.1 1 w (omega arith)
+    wait_end D lasts (Counted m k) w g more = counted_open D a n m k w 1 lasts (omega arith)
+    wait_end D lasts (Phased q) w g more = open_before S a n q D g.1 1 w (omega arith)
     wait_end D lasts Ending w g more = ne_eqb 1 w (λ e. omega arith)
