@@ -1,5 +1,6 @@
 -- The reader as the code has it, byte by byte: the place in the grammar, the piece that is being read, and what ended.
-use Rattle.std.specs.Prelude.{ℕ, ◌+◌, Bool, true, false, List, [], ◌∷◌, ◌==◌, nat_lt, if◌then◌else◌, Option, Some, None, option_map, option_and_then}
+use Rattle.std.specs.Prelude.{ℕ, ◌+◌, Bool, true, false, List, [], ◌∷◌, ◌==◌, nat_lt, if◌then◌else◌}
+use Rattle.std.specs.Prelude.{Option, Some, None, option_map, option_and_then}
 use Rattle.std.specs.Option.{option_or}
 use Rattle.grammar.specs.Grammar.{bytes, Piece, SG, amet/, KA, opens, shuts, from, to, comma, equals, name, number}
 use Rattle.grammar.specs.Reader.{Class, small, digit, blank, slash, S, G, K, A, other, mark, class_of}
@@ -116,7 +117,7 @@ ended_in m = None
 abbrev pub turn_to : Option Token → Mode → Place → Turn
 turn_to t m p = record { scanner = record { mode = m; place = p }; token = t }
 
--- a turn, or none where no text begins so
+-- the first byte of a name, a number, SG or KA; here and below, none where no text begins so
 abbrev pub begin_of : Scanner → Mode → Option Turn
 begin_of s m = option_map (turn_to (ended_in s.mode) m) (closed_of s)
 

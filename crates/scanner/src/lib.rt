@@ -25,8 +25,8 @@ pub enum Token {
     Equals,
 }
 
-// What is being read: nothing yet, no piece, SG or KA of which the first byte is read, a name by its code, or a number by
-// its digits and its value.
+// What is being read: nothing yet, no piece, SG or KA of which the first byte is read, a name by its code, or a number
+// by its digits and its value.
 #[derive(Clone, Copy)]
 pub enum Mode {
     Fresh,
