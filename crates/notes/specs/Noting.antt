@@ -1,6 +1,6 @@
 -- What is noted of a text, piece by piece: faults, and the values of each name.
-use Rattle.std.specs.Prelude.{ℕ, Bool, true, false, cond, if◌then◌else◌, not, ◌||◌, List, [], ◌∷◌, ◌++◌, length}
-use Rattle.std.specs.Prelude.{eqb, ltb, nat_lt, get_or, set, replicate, Option, Some, None}
+use Rattle.std.specs.Prelude.{ℕ, Bool, true, false, if◌then◌else◌, not, ◌||◌, List, [], ◌∷◌, ◌++◌, length}
+use Rattle.std.specs.Prelude.{◌==◌, nat_lt, get_or, set, replicate, Option, Some, None}
 use Rattle.grammar.specs.Grammar.{bytes}
 use Rattle.scanner.specs.Codes.{code_of}
 use Rattle.grammar.specs.Meaning.{Known, ◌↣◌, unknown, known_signals, items_of, keep_slot, is_list}
@@ -15,7 +15,7 @@ use Rattle.notes.specs.declared.Notes.{Notes}
 -- the slot of a code
 abbrev pub slot_in : List Known → ℕ → ℕ
 slot_in [] c = unknown
-slot_in ((s ↣ k) ∷ ks) c = cond (eqb c (code_of (bytes s))) k (slot_in ks c)
+slot_in ((s ↣ k) ∷ ks) c = if c == code_of (bytes s) then k else slot_in ks c
 
 abbrev pub signal_slot : ℕ → ℕ
 signal_slot c = slot_in known_signals c
@@ -54,23 +54,23 @@ marked_of n t = record { bad = n.bad || t; signal = n.signal; slot = n.slot; val
 -- with a name: a fault where it is unknown, or was there before
 abbrev pub touch_of : Notes → ℕ → Notes
 touch_of n s =
-    record { bad = n.bad || (eqb s unknown || has_in n.values s); signal = n.signal; slot = s; values = n.values }
+    record { bad = n.bad || (s == unknown || has_in n.values s); signal = n.signal; slot = s; values = n.values }
 
 -- a value of the slot
 abbrev pub stored_of : Notes → ℕ → Notes
 stored_of n v =
-    cond (ltb n.slot 18)
-    (record {
+    if nat_lt n.slot 18
+    then record {
       bad = n.bad;
       signal = n.signal;
       slot = n.slot;
       values = set n.values n.slot (pushed (values_at n.values n.slot) v);
-    })
-    n
+    }
+    else n
 
 -- a number: a fault where it is above the largest
 abbrev pub value_of : Notes → ℕ → Notes
-value_of n v = cond (ltb 4_294_967_295 v) (marked_of n true) (stored_of n v)
+value_of n v = if nat_lt 4_294_967_295 v then marked_of n true else stored_of n v
 
 abbrev pub with_signal : Notes → ℕ → Notes
 with_signal n s = record { bad = n.bad; signal = s; slot = n.slot; values = n.values }

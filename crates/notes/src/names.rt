@@ -6,31 +6,30 @@ ghost use Rattle.grammar.specs.Meaning.{em_items, mpb_items, phsm_items};
 
 use super::slots;
 
-// The codes of the names, as the scanner makes them of the letters.
-// Stays: no text of a name is held, and a constant's value may hold no call that would compute its code.
-const EM: u64 = 173;
+// The codes of the names, as the scanner makes them: the letters' places in the alphabet (a is 1, z is 26), in base 32.
+const EM: u64 = 5 * 32 + 13;
 
-const MPB: u64 = 13826;
+const MPB: u64 = (13 * 32 + 16) * 32 + 2;
 
-const PHSM: u64 = 533101;
+const PHSM: u64 = ((16 * 32 + 8) * 32 + 19) * 32 + 13;
 
-const PRI: u64 = 16969;
+const PRI: u64 = (16 * 32 + 18) * 32 + 9;
 
-const PC: u64 = 515;
+const PC: u64 = 16 * 32 + 3;
 
-const BPC: u64 = 2563;
+const BPC: u64 = (2 * 32 + 16) * 32 + 3;
 
-const PCX: u64 = 16504;
+const PCX: u64 = (16 * 32 + 3) * 32 + 24;
 
-const REPX: u64 = 595480;
+const REPX: u64 = ((18 * 32 + 5) * 32 + 16) * 32 + 24;
 
-const PCN: u64 = 16494;
+const PCN: u64 = (16 * 32 + 3) * 32 + 14;
 
-const REPN: u64 = 595470;
+const REPN: u64 = ((18 * 32 + 5) * 32 + 16) * 32 + 14;
 
-const CI: u64 = 105;
+const CI: u64 = 3 * 32 + 9;
 
-const PD: u64 = 516;
+const PD: u64 = 16 * 32 + 4;
 
 // The slot of the signal that has this name.
 pub(crate) fn signal_slot(code: u64) -> usize

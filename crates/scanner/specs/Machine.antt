@@ -1,5 +1,6 @@
 -- The reader as the code has it, byte by byte: the place in the grammar, the piece that is being read, and what ended.
-use Rattle.std.specs.Prelude.{ℕ, ◌+◌, Bool, true, false, List, [], ◌∷◌, ◌==◌, nat_lt, if◌then◌else◌, Option, Some, None}
+use Rattle.std.specs.Prelude.{ℕ, ◌+◌, Bool, true, false, List, [], ◌∷◌, ◌==◌, nat_lt, if◌then◌else◌}
+use Rattle.std.specs.Prelude.{Option, Some, None, option_map, option_and_then}
 use Rattle.std.specs.Option.{option_or}
 use Rattle.grammar.specs.Grammar.{bytes, Piece, SG, amet/, KA, opens, shuts, from, to, comma, equals, name, number}
 use Rattle.grammar.specs.Reader.{Class, small, digit, blank, slash, S, G, K, A, other, mark, class_of}
@@ -11,7 +12,7 @@ use Rattle.scanner.specs.declared.Mode.TheVariants.{Fresh, Between, InSg, InKa, 
 use Rattle.scanner.specs.declared.places.Place.{Place}
 use Rattle.scanner.specs.declared.places.Place.TheVariants.{Nothing, Begun, ToFirstSignal, ToSignal, ToName, Named}
 use Rattle.scanner.specs.declared.places.Place.TheVariants.{ToItem, ItemNamed, ToValue, ToNumber, ItemRead, NumberRead}
-use Rattle.scanner.specs.declared.places.Place.TheVariants.{SignalRead, Whole, Wrong}
+use Rattle.scanner.specs.declared.places.Place.TheVariants.{SignalRead, Whole}
 use Rattle.scanner.specs.declared.Scanner.{Scanner}
 use Rattle.scanner.specs.declared.Turn.{Turn}
 
@@ -67,20 +68,19 @@ row_of ItemRead = (9 ⇢ ToItem) ∷ (6 ⇢ SignalRead) ∷ []
 row_of NumberRead = (9 ⇢ ToNumber) ∷ (8 ⇢ ItemRead) ∷ []
 row_of SignalRead = (9 ⇢ ToSignal) ∷ (6 ⇢ Whole) ∷ []
 row_of Whole = []
-row_of Wrong = []
 
-abbrev pub target : ℕ → List Edge → Place
-target k [] = Wrong
-target k ((j ⇢ p) ∷ es) = if k == j then p else target k es
+abbrev pub target : ℕ → List Edge → Option Place
+target k [] = None
+target k ((j ⇢ p) ∷ es) = if k == j then Some p else target k es
 
--- the place after a piece; wrong where it may not come
-abbrev pub next_of : Place → Token → Place
+-- the place after a piece; none where it may not come
+abbrev pub next_of : Place → Token → Option Place
 next_of p t = target (kind_no t) (row_of p)
 
 -- no blank stands before the text, or after it
-abbrev pub spaced_to : Place → Place
-spaced_to Whole = Wrong
-spaced_to p = p
+abbrev pub spaced_to : Place → Option Place
+spaced_to Whole = None
+spaced_to p = Some p
 
 -- ---- bytes
 
@@ -95,16 +95,16 @@ whole_in m p = false
 abbrev pub is_whole : Scanner → Bool
 is_whole s = whole_in s.mode s.place
 
--- the place where the piece ends here
-abbrev pub closed_in : Mode → Place → Place
-closed_in Fresh p = p
-closed_in Between p = p
-closed_in InSg p = Wrong
-closed_in InKa p = Wrong
+-- the place where the piece ends here, if it may
+abbrev pub closed_in : Mode → Place → Option Place
+closed_in Fresh p = Some p
+closed_in Between p = Some p
+closed_in InSg p = None
+closed_in InKa p = None
 closed_in (InName c) p = next_of p (Name c)
 closed_in (InNumber n v) p = next_of p (Number v)
 
-abbrev pub closed_of : Scanner → Place
+abbrev pub closed_of : Scanner → Option Place
 closed_of s = closed_in s.mode s.place
 
 -- the name or number that ends here
@@ -117,41 +117,41 @@ ended_in m = None
 abbrev pub turn_to : Option Token → Mode → Place → Turn
 turn_to t m p = record { scanner = record { mode = m; place = p }; token = t }
 
-abbrev pub lost_turn : Turn
-lost_turn = turn_to None Between Wrong
+-- the first byte of a name, a number, SG or KA; here and below, none where no text begins so
+abbrev pub begin_of : Scanner → Mode → Option Turn
+begin_of s m = option_map (turn_to (ended_in s.mode) m) (closed_of s)
 
-abbrev pub begin_of : Scanner → Mode → Turn
-begin_of s m = turn_to (ended_in s.mode) m (closed_of s)
-
-abbrev pub letter_in : Mode → Scanner → ℕ → Turn
-letter_in (InName c) s b = turn_to None (InName (next_letter c b)) s.place
+abbrev pub letter_in : Mode → Scanner → ℕ → Option Turn
+letter_in (InName c) s b = Some (turn_to None (InName (next_letter c b)) s.place)
 letter_in m s b = begin_of s (InName (next_letter 0 b))
 
-abbrev pub letter_of : Scanner → ℕ → Turn
+abbrev pub letter_of : Scanner → ℕ → Option Turn
 letter_of s b = letter_in s.mode s b
 
-abbrev pub digit_in : Mode → Scanner → ℕ → Turn
+abbrev pub digit_in : Mode → Scanner → ℕ → Option Turn
 digit_in (InNumber n v) s b =
-    if nat_lt n 10 then turn_to None (InNumber (n + 1) (next_digit v b)) s.place else lost_turn
+    if nat_lt n 10 then Some (turn_to None (InNumber (n + 1) (next_digit v b)) s.place) else None
 digit_in m s b = begin_of s (InNumber 1 (next_digit 0 b))
 
-abbrev pub digit_of : Scanner → ℕ → Turn
+abbrev pub digit_of : Scanner → ℕ → Option Turn
 digit_of s b = digit_in s.mode s b
 
-abbrev pub blank_in : Mode → Scanner → Turn
-blank_in Fresh s = lost_turn
-blank_in m s = turn_to (ended_in s.mode) Between (spaced_to (closed_of s))
+abbrev pub blank_in : Mode → Scanner → Option Turn
+blank_in Fresh s = None
+blank_in m s = option_map (turn_to (ended_in s.mode) Between) (option_and_then spaced_to (closed_of s))
 
-abbrev pub blank_of : Scanner → Turn
+abbrev pub blank_of : Scanner → Option Turn
 blank_of s = blank_in s.mode s
 
 -- a mark is told where no name and no number ends
-abbrev pub mark_of : Scanner → Token → Turn
-mark_of s t = turn_to (option_or (ended_in s.mode) (Some t)) Between (next_of (closed_of s) t)
+abbrev pub mark_of : Scanner → Token → Option Turn
+mark_of s t =
+    option_map (turn_to (option_or (ended_in s.mode) (Some t)) Between)
+    (option_and_then (λ p. next_of p t) (closed_of s))
 
 -- the last byte of SG, amet/ or KA
-abbrev pub last_of : Scanner → Bool → Token → Turn
-last_of s right t = if right then turn_to (Some t) Between (next_of s.place t) else lost_turn
+abbrev pub last_of : Scanner → Bool → Token → Option Turn
+last_of s right t = if right then option_map (turn_to (Some t) Between) (next_of s.place t) else None
 
 abbrev pub is_in_sg : Mode → Bool
 is_in_sg InSg = true
@@ -166,7 +166,7 @@ is_in_amet (InName c) = c == code_of (bytes "amet")
 is_in_amet m = false
 
 -- one byte more, by its class
-abbrev pub turn_on : Class → Scanner → ℕ → Turn
+abbrev pub turn_on : Class → Scanner → ℕ → Option Turn
 turn_on small s b = letter_of s b
 turn_on digit s b = digit_of s b
 turn_on blank s b = blank_of s
@@ -176,8 +176,8 @@ turn_on S s b = begin_of s InSg
 turn_on G s b = last_of s (is_in_sg s.mode) Sg
 turn_on K s b = begin_of s InKa
 turn_on A s b = last_of s (is_in_ka s.mode) Ka
-turn_on other s b = lost_turn
+turn_on other s b = None
 
 -- shut, or it would be written out wherever it stands
-unfoldable pub turn_of : Scanner → ℕ → Turn
+unfoldable pub turn_of : Scanner → ℕ → Option Turn
 turn_of s b = turn_on (class_of b) s b

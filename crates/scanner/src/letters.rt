@@ -19,5 +19,5 @@ pub(crate) fn digit(value: u64, b: u8) -> u64
     10 * value.min(HELD) + u64::from(b % 16)
 }
 
-// The code of amet.
-pub(crate) const AMET: u64 = 46260;
+// The code of amet: the places in the alphabet of a, m, e and t, in base 32.
+pub(crate) const AMET: u64 = ((1 * 32 + 13) * 32 + 5) * 32 + 20;

@@ -2,7 +2,7 @@
 #![tactic(auto)]
 
 ghost use Rattle.std.specs.Prelude.{◌≡◌};
-ghost use Rattle.scanner.specs.Machine.{fresh_scanner, is_whole, closed_of, ended_in, turn_to, lost_turn, begin_of, letter_of, digit_of, blank_of, mark_of, last_of, turn_of};
+ghost use Rattle.scanner.specs.Machine.{fresh_scanner, is_whole, closed_of, ended_in, turn_to, begin_of, letter_of, digit_of, blank_of, mark_of, last_of, turn_of};
 
 mod letters;
 mod places;
@@ -25,8 +25,8 @@ pub enum Token {
     Equals,
 }
 
-// What is being read: nothing yet, no piece, SG or KA of which the first byte is read, a name by its code, or a number by
-// its digits and its value.
+// What is being read: nothing yet, no piece, SG or KA of which the first byte is read, a name by its code, or a number
+// by its digits and its value.
 #[derive(Clone, Copy)]
 pub enum Mode {
     Fresh,
@@ -61,13 +61,6 @@ impl Turn {
             token,
         }
     }
-
-    // To where no text can be.
-    fn lost() -> Turn
-        ensures { result ≡ lost_turn }
-    {
-        Turn::to(None, Mode::Between, Place::Wrong)
-    }
 }
 
 impl Scanner {
@@ -87,15 +80,15 @@ impl Scanner {
         matches!(self.mode, Mode::Between) && matches!(self.place, Place::Whole)
     }
 
-    // The place where the piece ends here.
-    fn closed(self) -> Place
+    // The place where the piece ends here, if it may.
+    fn closed(self) -> Option<Place>
         ensures { result ≡ closed_of self }
     {
         match self.mode {
             Mode::InName { code } => self.place.after(Token::Name(code)),
             Mode::InNumber { value, .. } => self.place.after(Token::Number(value)),
-            Mode::InSg | Mode::InKa => Place::Wrong,
-            Mode::Fresh | Mode::Between => self.place,
+            Mode::InSg | Mode::InKa => None,
+            Mode::Fresh | Mode::Between => Some(self.place),
         }
     }
 
@@ -111,42 +104,41 @@ impl Scanner {
     }
 
     // The first byte of a name, a number, SG or KA.
-    fn begin(self, mode: Mode) -> Turn
+    fn begin(self, mode: Mode) -> Option<Turn>
         ensures { result ≡ begin_of self mode }
     {
-        Turn::to(self.ended(), mode, self.closed())
+        Some(Turn::to(self.ended(), mode, self.closed()?))
     }
 
-    fn on_letter(self, b: u8) -> Turn
+    fn on_letter(self, b: u8) -> Option<Turn>
         ensures { result ≡ letter_of self b }
     {
         match self.mode {
-            Mode::InName { code } => Turn::to(
-                None,
-                Mode::InName {
+            Mode::InName { code } => {
+                let mode = Mode::InName {
                     code: letters::letter(code, b),
-                },
-                self.place,
-            ),
+                };
+                Some(Turn::to(None, mode, self.place))
+            }
             _ => self.begin(Mode::InName {
                 code: letters::letter(0, b),
             }),
         }
     }
 
-    fn on_digit(self, b: u8) -> Turn
+    fn on_digit(self, b: u8) -> Option<Turn>
         ensures { result ≡ digit_of self b }
     {
         match self.mode {
             Mode::InNumber { digits, value } => {
                 if digits >= 10 {
-                    return Turn::lost();
+                    return None;
                 }
                 let mode = Mode::InNumber {
                     digits: digits + 1,
                     value: letters::digit(value, b),
                 };
-                Turn::to(None, mode, self.place)
+                Some(Turn::to(None, mode, self.place))
             }
             _ => self.begin(Mode::InNumber {
                 digits: 1,
@@ -156,39 +148,36 @@ impl Scanner {
     }
 
     // A blank: none stands before the text or after it.
-    fn on_blank(self) -> Turn
+    fn on_blank(self) -> Option<Turn>
         ensures { result ≡ blank_of self }
     {
         match self.mode {
-            Mode::Fresh => Turn::lost(),
-            _ => Turn::to(self.ended(), Mode::Between, self.closed().spaced()),
+            Mode::Fresh => None,
+            _ => Some(Turn::to(self.ended(), Mode::Between, self.closed()?.spaced()?)),
         }
     }
 
     // A mark of one byte. It is told where no name and no number ends.
-    fn on_mark(self, mark: Token) -> Turn
+    fn on_mark(self, mark: Token) -> Option<Turn>
         ensures { result ≡ mark_of self mark }
     {
-        Turn::to(
-            self.ended().or(Some(mark)),
-            Mode::Between,
-            self.closed().after(mark),
-        )
+        let place = self.closed()?.after(mark)?;
+        Some(Turn::to(self.ended().or(Some(mark)), Mode::Between, place))
     }
 
     // The last byte of SG, amet/ or KA, which is right where the bytes before are being read.
-    fn on_last(self, right: bool, mark: Token) -> Turn
+    fn on_last(self, right: bool, mark: Token) -> Option<Turn>
         ensures { result ≡ last_of self right mark }
     {
         if !right {
-            return Turn::lost();
+            return None;
         }
-        Turn::to(Some(mark), Mode::Between, self.place.after(mark))
+        Some(Turn::to(Some(mark), Mode::Between, self.place.after(mark)?))
     }
 
-    // One byte more.
+    // One byte more, or none: then no text begins so. A name or number out of place is met where it ends.
     #[tactic(auto, unfolding(crate::specs::Machine::turn_of))]
-    pub fn step(self, b: u8) -> Turn
+    pub fn step(self, b: u8) -> Option<Turn>
         ensures { result ≡ turn_of self b }
     {
         match b {
@@ -214,7 +203,7 @@ impl Scanner {
             b'G' => self.on_last(matches!(self.mode, Mode::InSg), Token::Sg),
             b'K' => self.begin(Mode::InKa),
             b'A' => self.on_last(matches!(self.mode, Mode::InKa), Token::Ka),
-            _ => Turn::lost(),
+            _ => None,
         }
     }
 }

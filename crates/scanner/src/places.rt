@@ -4,8 +4,7 @@ ghost use Rattle.scanner.specs.Machine.{next_of, spaced_to};
 
 use super::Token;
 
-// What was read, and so what may come next. At the last place no text can be.
-// Stays: the last place is one that each byte keeps, so that a step needs no case of none.
+// What was read, and so what may come next.
 #[derive(Clone, Copy, PartialEq, Eq, Debug)]
 pub enum Place {
     Nothing,
@@ -22,15 +21,14 @@ pub enum Place {
     NumberRead,
     SignalRead,
     Whole,
-    Wrong,
 }
 
 impl Place {
-    // The place after a piece.
-    pub(crate) fn after(self, token: Token) -> Place
+    // The place after a piece: none where it may not come.
+    pub(crate) fn after(self, token: Token) -> Option<Place>
         ensures { result ≡ next_of self token }
     {
-        match (self, token) {
+        let place = match (self, token) {
             (Place::Nothing, Token::Sg) => Place::Begun,
             (Place::Begun, Token::Opens) => Place::ToFirstSignal,
             (Place::ToFirstSignal | Place::ToSignal, Token::Amet) => Place::ToName,
@@ -48,17 +46,18 @@ impl Place {
             (Place::ItemRead, Token::Shuts) => Place::SignalRead,
             (Place::Named | Place::SignalRead, Token::Comma) => Place::ToSignal,
             (Place::ToFirstSignal | Place::Named | Place::SignalRead, Token::Shuts) => Place::Whole,
-            _ => Place::Wrong,
-        }
+            _ => return None,
+        };
+        Some(place)
     }
 
     // The place after a blank: none follows the whole text.
-    pub(crate) fn spaced(self) -> Place
+    pub(crate) fn spaced(self) -> Option<Place>
         ensures { result ≡ spaced_to self }
     {
         match self {
-            Place::Whole => Place::Wrong,
-            place => place,
+            Place::Whole => None,
+            place => Some(place),
         }
     }
 }

@@ -1,6 +1,7 @@
 -- The code's places and notes, piece by piece, are an image of what the grammar's reader has read.
+use Rattle.std.specs.Prelude.{Option as Maybe, Some, None, option_map, option_and_then}
 use Prim.Native.Nat.{ℕ}
-use mathlib.Core.Bool.{Bool, true, false, cond, true≢false as no}
+use mathlib.Core.Bool.{Bool, true, false, cond}
 use mathlib.Core.List.{List, [], ◌∷◌}
 use mathlib.Core.Path.{◌≡◌, refl, sym, ap, ◌∙◌}
 use borrow.Author.Tests.{eqb-true}
@@ -15,66 +16,47 @@ use Rattle.scanner.specs.Machine.{Edge, ◌⇢◌, row_of, target, next_of, spac
 use Rattle.scanner.specs.declared.Token.{Token}
 use Rattle.scanner.specs.declared.Token.TheVariants.{Name, Number, From}
 use Rattle.scanner.specs.declared.places.Place.{Place}
-use Rattle.scanner.specs.declared.places.Place.TheVariants.{Nothing, Begun, ToFirstSignal, ToSignal, ToName, Named, ToItem, ItemNamed, ToValue, ToNumber, ItemRead, NumberRead, SignalRead, Whole, Wrong}
+use Rattle.scanner.specs.declared.places.Place.TheVariants.{Nothing, Begun, ToFirstSignal, ToSignal, ToName, Named, ToItem, ItemNamed, ToValue, ToNumber, ItemRead, NumberRead, SignalRead, Whole}
 use Rattle.sg.specs.Readings.{numbers_notes, item_notes, items_notes, signal_notes, signals_notes, text_notes}
 
-abbrev pub place_of : Read → Place
-place_of nothing = Nothing
-place_of begun = Begun
-place_of (to_signal none) = ToFirstSignal
-place_of (to_signal (ss ▹ s)) = ToSignal
-place_of (to_name ss) = ToName
-place_of (named ss n) = Named
-place_of (to_item ss n is) = ToItem
-place_of (item_named ss n is m) = ItemNamed
-place_of (to_value ss n is m) = ToValue
-place_of (to_number ss n is m ds) = ToNumber
-place_of (item_read ss n is i) = ItemRead
-place_of (number_read ss n is m ds d) = NumberRead
-place_of (signal_read ss s) = SignalRead
-place_of (whole t) = Whole
-place_of wrong = Wrong
+-- a place, and the notes there
+pub record Point : Type 0 where
+  pub place : Place
+  pub notes : Notes
 
--- where no text can be
-abbrev pub is_wrong : Place → Bool
-is_wrong Wrong = true
-is_wrong p = false
-
-wrong-is : (p : Place) → is_wrong p ≡ true → p ≡ Wrong
-wrong-is Wrong e = refl
-wrong-is p e = absurd (no (sym e))
-
-pub not-wrong : (p : Place) → (p ≡ Wrong → ⊥) → is_wrong p ≡ false
-not-wrong Wrong h = absurd (h refl)
-not-wrong p h = refl
+abbrev pub point : Place → Notes → Point
+point p n = record { place = p; notes = n }
 
 abbrev to_item_notes : Row Signal → List ℕ → Row Item → Notes
 to_item_notes ss n is = items_notes (signal_of (signals_notes ss) (code_of n)) is
 
-abbrev pub notes_of : Read → Notes
-notes_of nothing = no_notes
-notes_of begun = no_notes
-notes_of (to_signal ss) = signals_notes ss
-notes_of (to_name ss) = signals_notes ss
-notes_of (named ss n) = signal_of (signals_notes ss) (code_of n)
-notes_of (to_item ss n is) = to_item_notes ss n is
-notes_of (item_named ss n is m) = item_of (to_item_notes ss n is) (code_of m)
-notes_of (to_value ss n is m) = item_of (to_item_notes ss n is) (code_of m)
-notes_of (to_number ss n is m ds) = numbers_notes (list_of (item_of (to_item_notes ss n is) (code_of m))) ds
-notes_of (item_read ss n is i) = item_notes (to_item_notes ss n is) i
-notes_of (number_read ss n is m ds d) =
-    value_of (numbers_notes (list_of (item_of (to_item_notes ss n is) (code_of m))) ds) (number_of d)
-notes_of (signal_read ss s) = signal_notes (signals_notes ss) s
-notes_of (whole t) = text_notes t
-notes_of wrong = no_notes
+-- what has been read, as the code has it: none where it is no text
+abbrev pub image : Read → Maybe Point
+image nothing = Some (point Nothing no_notes)
+image begun = Some (point Begun no_notes)
+image (to_signal none) = Some (point ToFirstSignal no_notes)
+image (to_signal (ss ▹ s)) = Some (point ToSignal (signals_notes (ss ▹ s)))
+image (to_name ss) = Some (point ToName (signals_notes ss))
+image (named ss n) = Some (point Named (signal_of (signals_notes ss) (code_of n)))
+image (to_item ss n is) = Some (point ToItem (to_item_notes ss n is))
+image (item_named ss n is m) = Some (point ItemNamed (item_of (to_item_notes ss n is) (code_of m)))
+image (to_value ss n is m) = Some (point ToValue (item_of (to_item_notes ss n is) (code_of m)))
+image (to_number ss n is m ds) =
+    Some (point ToNumber (numbers_notes (list_of (item_of (to_item_notes ss n is) (code_of m))) ds))
+image (item_read ss n is i) = Some (point ItemRead (item_notes (to_item_notes ss n is) i))
+image (number_read ss n is m ds d) =
+    Some (point NumberRead (value_of (numbers_notes (list_of (item_of (to_item_notes ss n is) (code_of m))) ds) (number_of d)))
+image (signal_read ss s) = Some (point SignalRead (signal_notes (signals_notes ss) s))
+image (whole t) = Some (point Whole (text_notes t))
+image wrong = None
 
--- a place and the notes there
-record Point : Type 0 where
-  place : Place
-  notes : Notes
+-- to a place, if there is one, with what a piece says
+abbrev fed_to : Point → Token → Maybe Place → Maybe Point
+fed_to q t o = option_map (λ p. point p (note_of q.notes q.place t)) o
 
-abbrev image : Read → Point
-image r = record { place = place_of r; notes = notes_of r }
+-- a piece more: the place goes by the table, and the notes by what the piece says
+abbrev pub fed : Token → Point → Maybe Point
+fed t q = fed_to q t (next_of q.place t)
 
 -- the options are those of the place's row
 abbrev Aligned : Point → List ℕ → List Option → List Edge → Type 0
@@ -82,89 +64,71 @@ Aligned q w [] [] = Unit {0}
 Aligned q w [] (e ∷ es) = ⊥
 Aligned q w (o ∷ os) [] = ⊥
 Aligned q w ((j ⇒ r) ∷ os) ((k ⇢ p) ∷ es) =
-    (j ≡ k) × (is_wrong p ≡ false) × (image r ≡ record { place = p; notes = note_of q.notes q.place (token_of (piece_from j w)) }) × Aligned q w os es
+    (j ≡ k) × (image r ≡ fed_to q (token_of (piece_from j w)) (Some p)) × Aligned q w os es
 
-aligned : (r : Read) (w : List ℕ) → Aligned (image r) w (options r w) (row_of (place_of r))
+-- and there are none where it is no text
+abbrev AlignedAt : Maybe Point → List ℕ → List Option → Type 0
+AlignedAt None w os = os ≡ []
+AlignedAt (Some q) w os = Aligned q w os (row_of q.place)
+
+aligned : (r : Read) (w : List ℕ) → AlignedAt (image r) w (options r w)
 unfolding note_of text_notes
-aligned nothing w = (refl, refl, refl, tt)
-aligned begun w = (refl, refl, refl, tt)
-aligned (to_signal none) w = (refl, refl, refl, (refl, refl, refl, tt))
-aligned (to_signal (ss ▹ s)) w = (refl, refl, refl, tt)
-aligned (to_name ss) w = (refl, refl, refl, tt)
-aligned (named ss n) w = (refl, refl, refl, (refl, refl, refl, (refl, refl, refl, tt)))
-aligned (to_item ss n is) w = (refl, refl, refl, (refl, refl, refl, tt))
-aligned (item_named ss n is m) w = (refl, refl, refl, tt)
-aligned (to_value ss n is m) w = (refl, refl, refl, (refl, refl, refl, tt))
-aligned (item_read ss n is i) w = (refl, refl, refl, (refl, refl, refl, tt))
-aligned (to_number ss n is m ds) w = (refl, refl, refl, tt)
-aligned (number_read ss n is m ds d) w = (refl, refl, refl, (refl, refl, refl, tt))
-aligned (signal_read ss s) w = (refl, refl, refl, (refl, refl, refl, tt))
+aligned nothing w = (refl, refl, tt)
+aligned begun w = (refl, refl, tt)
+aligned (to_signal none) w = (refl, refl, (refl, refl, tt))
+aligned (to_signal (ss ▹ s)) w = (refl, refl, tt)
+aligned (to_name ss) w = (refl, refl, tt)
+aligned (named ss n) w = (refl, refl, (refl, refl, (refl, refl, tt)))
+aligned (to_item ss n is) w = (refl, refl, (refl, refl, tt))
+aligned (item_named ss n is m) w = (refl, refl, tt)
+aligned (to_value ss n is m) w = (refl, refl, (refl, refl, tt))
+aligned (item_read ss n is i) w = (refl, refl, (refl, refl, tt))
+aligned (to_number ss n is m ds) w = (refl, refl, tt)
+aligned (number_read ss n is m ds d) w = (refl, refl, (refl, refl, tt))
+aligned (signal_read ss s) w = (refl, refl, (refl, refl, tt))
 aligned (whole t) w = tt
-aligned wrong w = tt
-
-abbrev lost_point : Point
-lost_point = record { place = Wrong; notes = no_notes }
-
-abbrev fed_to : Point → Token → Place → Point
-fed_to q t p = cond (is_wrong p) lost_point (record { place = p; notes = note_of q.notes q.place t })
+aligned wrong w = refl
 
 chosen : (q : Point) (w : List ℕ) (k : ℕ) (os : List Option) (es : List Edge) → Aligned q w os es
     → image (choose k os) ≡ fed_to q (token_of (piece_from k w)) (target k es)
 chosen q w k [] [] h = refl
 chosen q w k [] (e ∷ es) h = absurd h
 chosen q w k (o ∷ os) [] h = absurd h
-chosen q w k ((j ⇒ r) ∷ os) ((i ⇢ p) ∷ es) h = rw (← h.0) (at (eqb k j) refl (chosen q w k os es h.3))
+chosen q w k ((j ⇒ r) ∷ os) ((i ⇢ p) ∷ es) h = rw (← h.0) (at (eqb k j) refl (chosen q w k os es h.2))
   where
     at : (t : Bool) → eqb k j ≡ t → image (choose k os) ≡ fed_to q (token_of (piece_from k w)) (target k es)
-        → image (cond t r (choose k os)) ≡ fed_to q (token_of (piece_from k w)) (cond t p (target k es))
-    at true e g = rw (h.1, eqb-true k j e) h.2
+        → image (cond t r (choose k os)) ≡ fed_to q (token_of (piece_from k w)) (cond t (Some p) (target k es))
+    at true e g = rw (eqb-true k j e) h.1
     at false e g = g
+
+chosen_at : (o : Maybe Point) (w : List ℕ) (k : ℕ) (os : List Option) → AlignedAt o w os
+    → image (choose k os) ≡ option_and_then (λ q. fed_to q (token_of (piece_from k w)) (target k (row_of q.place))) o
+chosen_at None w k os h = rw h refl
+chosen_at (Some q) w k os h = chosen q w k os (row_of q.place) h
 
 kind-told : (p : Piece) → kind_no (token_of p) ≡ kind_of p
 kind-told (name w) = refl
 kind-told p = refl
 
-fed-image : (r : Read) (p : Piece) → image (feed r p) ≡ fed_to (image r) (token_of p) (next_of (place_of r) (token_of p))
+pub fed-image : (r : Read) (p : Piece) → image (feed r p) ≡ option_and_then (fed (token_of p)) (image r)
 fed-image r p =
-    rw (kind-told p)
-    (rw (from-kind p) at (chosen (image r) (word_of p) (kind_of p) (options r (word_of p)) (row_of (place_of r)) (aligned r (word_of p))))
-
--- a piece more: the place goes by the table
-pub place-fed : (r : Read) (p : Piece) → place_of (feed r p) ≡ next_of (place_of r) (token_of p)
-place-fed r p = ap (λ (q : Point). q.place) (fed-image r p) ∙ at (next_of (place_of r) (token_of p)) (is_wrong (next_of (place_of r) (token_of p))) refl
-  where
-    n : Notes
-    n = note_of (notes_of r) (place_of r) (token_of p)
-
-    at : (k : Place) (t : Bool) → is_wrong k ≡ t → (cond t lost_point (record { place = k; notes = n })).place ≡ k
-    at k true e = sym (wrong-is k e)
-    at k false e = refl
-
--- and the notes by what it says, where it may come
-pub notes-fed : (r : Read) (p : Piece) → is_wrong (place_of (feed r p)) ≡ false → notes_of (feed r p) ≡ note_of (notes_of r) (place_of r) (token_of p)
-notes-fed r p e =
-    ap (λ (q : Point). q.notes) (fed-image r p)
-    ∙ ap (λ (t : Bool). (cond t lost_point (record { place = next_of (place_of r) (token_of p); notes = n })).notes)
-    (ap is_wrong (sym (place-fed r p)) ∙ e)
-  where
-    n : Notes
-    n = note_of (notes_of r) (place_of r) (token_of p)
+    chosen_at (image r) (word_of p) (kind_of p) (options r (word_of p)) (aligned r (word_of p))
+    ∙ ap (λ (x : Piece). option_and_then (λ q. fed_to q (token_of x) (target (kind_of p) (row_of q.place))) (image r)) (from-kind p)
+    ∙ ap (λ (k : ℕ). option_and_then (λ q. fed_to q (token_of p) (target k (row_of q.place))) (image r)) (sym (kind-told p))
 
 -- a blank more: none may follow the whole text
-pub place-spaced : (r : Read) → place_of (spaced r) ≡ spaced_to (place_of r)
-place-spaced (to_signal none) = refl
-place-spaced r = refl
+abbrev pub blanked : Point → Maybe Point
+blanked q = option_map (λ p. point p q.notes) (spaced_to q.place)
 
-pub notes-spaced : (r : Read) → is_wrong (place_of (spaced r)) ≡ false → notes_of (spaced r) ≡ notes_of r
-notes-spaced (to_signal none) e = refl
-notes-spaced (whole t) e = absurd (no e)
-notes-spaced r e = refl
+pub spaced-image : (r : Read) → image (spaced r) ≡ option_and_then blanked (image r)
+spaced-image (to_signal none) = refl
+spaced-image r = refl
 
 -- no bracket may follow a name or a number
-pub no-list-named : (r : Read) (c : ℕ) → next_of (next_of (place_of r) (Name c)) From ≡ Wrong
-no-list-named (to_signal none) c = refl
-no-list-named r c = refl
+pub no-list-named : (p : Place) (c : ℕ) → option_and_then (λ q. next_of q From) (next_of p (Name c)) ≡ None
+no-list-named Nothing c = refl
+no-list-named p c = refl
 
-pub no-list_numbered : (r : Read) (v : ℕ) → next_of (next_of (place_of r) (Number v)) From ≡ Wrong
-no-list_numbered (to_signal none) v = refl
-no-list_numbered r v = refl
+pub no-list_numbered : (p : Place) (v : ℕ) → option_and_then (λ q. next_of q From) (next_of p (Number v)) ≡ None
+no-list_numbered Nothing v = refl
+no-list_numbered p v = refl

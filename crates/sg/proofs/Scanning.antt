@@ -1,6 +1,6 @@
 -- The code's scanner, byte by byte, is an image of the grammar's, and notes what the pieces say.
-use Rattle.std.specs.Prelude.{Option as Maybe, Some, None}
-use Prim.Native.Nat.{ℕ, suc, ◌+◌}
+use Rattle.std.specs.Prelude.{Option as Maybe, Some, None, option_map, option_and_then}
+use Prim.Native.Nat.{ℕ, suc}
 use native.Mathlib.Omega.{arith}
 use native.Mathlib.Numerals.{add-one}
 use mathlib.Core.Bool.{Bool, true, false, cond, not, ◌&&◌, true≢false as no}
@@ -13,28 +13,32 @@ use Rattle.grammar.proofs.Sound.{Seen, seen-small, seen-digit, seen-blank, seen-
 use Rattle.notes.specs.declared.Notes.{Notes}
 use Rattle.notes.specs.Noting.{note_of, noted}
 use Rattle.scanner.specs.Codes.{code_of, number_of, next_letter, next_digit}
-use Rattle.scanner.specs.Machine.{next_of, token_of, fresh_scanner, turn_to, lost_turn, begin_of, letter_of, digit_of, spaced_to, blank_of, mark_of, last_of, is_in_sg, is_in_ka, is_in_amet, turn_on, turn_of}
+use Rattle.scanner.specs.Machine.{next_of, token_of, turn_to, begin_of, letter_of, digit_of, spaced_to, blank_of, mark_of, last_of, is_in_sg, is_in_ka, is_in_amet, turn_on, turn_of}
 use Rattle.scanner.specs.declared.Token.{Token}
 use Rattle.scanner.specs.declared.Token.TheVariants.{Sg, Amet, Ka, From}
 use Rattle.scanner.specs.declared.Mode.{Mode}
-use Rattle.scanner.specs.declared.Mode.TheVariants.{Between, InSg, InKa, InName, InNumber}
+use Rattle.scanner.specs.declared.Mode.TheVariants.{Fresh, Between, InSg, InKa, InName, InNumber}
 use Rattle.scanner.specs.declared.places.Place.{Place}
-use Rattle.scanner.specs.declared.places.Place.TheVariants.{Wrong}
 use Rattle.scanner.specs.declared.Scanner.{Scanner}
 use Rattle.scanner.specs.declared.Turn.{Turn}
 use Rattle.sg.proofs.Codes.{code-more, number_more, code_same, amet}
-use Rattle.sg.proofs.Pieces.{place_of, is_wrong, notes_of, place-fed, notes-fed, place-spaced, notes-spaced, no-list-named, no-list_numbered}
+use Rattle.sg.proofs.Pieces.{Point, point, image, fed, fed-image, blanked, spaced-image, no-list-named, no-list_numbered}
 
-abbrev scanner_at : Mode → Place → Scanner
-scanner_at m p = record { mode = m; place = p }
+-- what the code holds between two bytes
+pub record State : Type 0 where
+  pub scanner : Scanner
+  pub notes : Notes
 
-abbrev pub picture : Scan → Scanner
-picture fresh = fresh_scanner
-picture (gap r) = scanner_at Between (place_of r)
-picture (in_sg r) = scanner_at InSg (place_of r)
-picture (in_ka r) = scanner_at InKa (place_of r)
-picture (in_name w r) = scanner_at (InName (code_of w)) (place_of r)
-picture (in_number n w r) = scanner_at (InNumber n (number_of w)) (place_of r)
+abbrev pub state_at : Mode → Point → State
+state_at m q = record { scanner = record { mode = m; place = q.place }; notes = q.notes }
+
+abbrev pub mode_of : Scan → Mode
+mode_of fresh = Fresh
+mode_of (gap r) = Between
+mode_of (in_sg r) = InSg
+mode_of (in_ka r) = InKa
+mode_of (in_name w r) = InName (code_of w)
+mode_of (in_number n w r) = InNumber n (number_of w)
 
 abbrev pub read_before : Scan → Read
 read_before fresh = nothing
@@ -44,14 +48,74 @@ read_before (in_ka r) = r
 read_before (in_name w r) = r
 read_before (in_number n w r) = r
 
--- what is noted before the piece that is being read
-abbrev pub notes_in : Scan → Notes
-notes_in s = notes_of (read_before s)
+-- a scan, as the code has it: none where no text begins so
+abbrev pub picture : Scan → Maybe State
+picture s = option_map (state_at (mode_of s)) (image (read_before s))
 
--- a turn leads from one scan to the next: to its scanner, and to its notes if that is not lost
-pub record Leads (s t : Scan) (turn : Turn) : Type 0 where
-  pub scanner-is : turn.scanner ≡ picture t
-  pub notes_are : is_wrong (place_of (read_before t)) ≡ false → noted (notes_in s) (picture s).place turn.token ≡ notes_in t
+-- a turn's scanner, and the notes with what it tells
+abbrev pub turned : State → Turn → State
+turned q t = record { scanner = t.scanner; notes = noted q.notes q.scanner.place t.token }
+
+abbrev moved : (Scanner → Maybe Turn) → State → Maybe State
+moved f q = option_map (turned q) (f q.scanner)
+
+-- one byte more
+abbrev pub stepped : ℕ → State → Maybe State
+stepped b q = moved (λ x. turn_of x b) q
+
+-- f leads from one scan to the next, as the code has them
+abbrev Leads : Scan → Scan → (Scanner → Maybe Turn) → Type 0
+Leads s t f = picture t ≡ option_and_then (moved f) (picture s)
+
+-- it does where it goes, at each point, as what has been read goes by g
+leads : (s t : Scan) (f : Scanner → Maybe Turn) (g : Point → Maybe Point) → image (read_before t) ≡ option_and_then g (image (read_before s))
+    → ((q : Point) → option_map (state_at (mode_of t)) (g q) ≡ moved f (state_at (mode_of s) q)) → Leads s t f
+leads s t f g e h = ap (option_map (state_at (mode_of t))) e ∙ at (image (read_before s))
+  where
+    at : (o : Maybe Point) → option_map (state_at (mode_of t)) (option_and_then g o) ≡ option_and_then (moved f) (option_map (state_at (mode_of s)) o)
+    at None = refl
+    at (Some q) = h q
+
+kept : (o : Maybe Point) → o ≡ option_and_then Some o
+kept None = refl
+kept (Some q) = refl
+
+abbrev to_none : Point → Maybe Point
+to_none q = None
+
+nowhere : (o : Maybe Point) → None ≡ option_and_then to_none o
+nowhere None = refl
+nowhere (Some q) = refl
+
+-- nothing is noted
+quiet : (s t : Scan) (f : Scanner → Maybe Turn) → image (read_before t) ≡ image (read_before s)
+    → ((q : Point) → Some (state_at (mode_of t) q) ≡ moved f (state_at (mode_of s) q)) → Leads s t f
+quiet s t f e h = leads s t f Some (e ∙ kept (image (read_before s))) h
+
+-- where no text begins so
+lost : (s t : Scan) (f : Scanner → Maybe Turn) → image (read_before t) ≡ None
+    → ((q : Point) → None ≡ moved f (state_at (mode_of s) q)) → Leads s t f
+lost s t f e h = leads s t f to_none (e ∙ nowhere (image (read_before s))) h
+
+-- f and g take each point alike
+alike : (s t : Scan) (f g : Scanner → Maybe Turn) → ((q : Point) → f (state_at (mode_of s) q).scanner ≡ g (state_at (mode_of s) q).scanner)
+    → Leads s t f → Leads s t g
+alike s t f g h l = l ∙ at (image (read_before s))
+  where
+    at : (o : Maybe Point) → option_and_then (moved f) (option_map (state_at (mode_of s)) o) ≡ option_and_then (moved g) (option_map (state_at (mode_of s)) o)
+    at None = refl
+    at (Some q) = ap (option_map (turned (state_at (mode_of s) q))) (h q)
+
+-- a piece that is told; none
+told : (m k : Mode) (q : Point) (c : Token) (o : Maybe Place)
+    → option_map (state_at k) (option_map (λ p. point p (note_of q.notes q.place c)) o) ≡ option_map (turned (state_at m q)) (option_map (turn_to (Some c) k) o)
+told m k q c None = refl
+told m k q c (Some p) = refl
+
+untold : (m k : Mode) (q : Point) (o : Maybe Place)
+    → option_map (state_at k) (option_map (λ p. point p q.notes) o) ≡ option_map (turned (state_at m q)) (option_map (turn_to None k) o)
+untold m k q None = refl
+untold m k q (Some p) = refl
 
 -- a name that is being read has small letters only
 abbrev pub Fine : Scan → Type 0
@@ -62,120 +126,117 @@ Fine (in_ka r) = Unit {0}
 Fine (in_name w r) = Name w
 Fine (in_number n w r) = Unit {0}
 
--- nothing is noted
-quiet : {s t : Scan} {turn : Turn} → turn.scanner ≡ picture t → turn.token ≡ None → notes_in s ≡ notes_in t → Leads s t turn
-quiet {s} {t} {turn} e k n = record { scanner-is = e; notes_are = λ h. rw k n }
+-- THE FIRST BYTE OF A NAME, A NUMBER, SG AND KA
 
--- where no text can be
-lost : {s t : Scan} {turn : Turn} → turn.scanner ≡ picture t → place_of (read_before t) ≡ Wrong → Leads s t turn
-lost {s} {t} e p = record { scanner-is = e; notes_are = λ h. absurd (no (sym (ap is_wrong p) ∙ h)) }
+abbrev to_begin : Mode → Scanner → Maybe Turn
+to_begin m x = begin_of x m
 
--- a name or a number ends, and a scan is begun behind it
-named-ends : (w : List ℕ) (r : Read) (m : Mode) {t : Scan} → picture t ≡ scanner_at m (place_of (feed r (name w)))
-    → read_before t ≡ feed r (name w) → Leads (in_name w r) t (turn_to (Some (token_of (name w))) m (next_of (place_of r) (token_of (name w))))
-named-ends w r m {t} e b =
-    record {
-      scanner-is = ap (scanner_at m) (sym (place-fed r (name w))) ∙ sym e;
-      notes_are = λ h. sym (ap notes_of b ∙ notes-fed r (name w) (ap (λ (q : Read). is_wrong (place_of q)) (sym b) ∙ h));
-    }
+begin-leads : (s t : Scan) → read_before t ≡ closed s → Leads s t (to_begin (mode_of t))
+begin-leads fresh t e = quiet fresh t (to_begin (mode_of t)) (ap image e) (λ q. refl)
+begin-leads (gap r) t e = quiet (gap r) t (to_begin (mode_of t)) (ap image e) (λ q. refl)
+begin-leads (in_sg r) t e = lost (in_sg r) t (to_begin (mode_of t)) (ap image e) (λ q. refl)
+begin-leads (in_ka r) t e = lost (in_ka r) t (to_begin (mode_of t)) (ap image e) (λ q. refl)
+begin-leads (in_name w r) t e =
+    leads (in_name w r) t (to_begin (mode_of t)) (fed (token_of (name w))) (ap image e ∙ fed-image r (name w))
+    (λ q. told (mode_of (in_name w r)) (mode_of t) q (token_of (name w)) (next_of q.place (token_of (name w))))
+begin-leads (in_number n w r) t e =
+    leads (in_number n w r) t (to_begin (mode_of t)) (fed (token_of (number w))) (ap image e ∙ fed-image r (number w))
+    (λ q. told (mode_of (in_number n w r)) (mode_of t) q (token_of (number w)) (next_of q.place (token_of (number w))))
 
-number-ends : (n : ℕ) (w : List ℕ) (r : Read) (m : Mode) {t : Scan} → picture t ≡ scanner_at m (place_of (feed r (number w)))
-    → read_before t ≡ feed r (number w)
-    → Leads (in_number n w r) t (turn_to (Some (token_of (number w))) m (next_of (place_of r) (token_of (number w))))
-number-ends n w r m {t} e b =
-    record {
-      scanner-is = ap (scanner_at m) (sym (place-fed r (number w))) ∙ sym e;
-      notes_are = λ h. sym (ap notes_of b ∙ notes-fed r (number w) (ap (λ (q : Read). is_wrong (place_of q)) (sym b) ∙ h));
-    }
+-- LETTERS AND DIGITS
 
-letter-leads : (b : ℕ) (s : Scan) → Leads s (on_small b s) (letter_of (picture s) b)
-letter-leads b fresh = quiet refl refl refl
-letter-leads b (gap r) = quiet refl refl refl
-letter-leads b (in_sg r) = lost refl refl
-letter-leads b (in_ka r) = lost refl refl
-letter-leads b (in_name w r) = quiet (ap (λ (c : ℕ). scanner_at (InName c) (place_of r)) (sym (code-more 0 w b))) refl refl
-letter-leads b (in_number n w r) = number-ends n w r (InName (next_letter 0 b)) refl refl
+letter-leads : (b : ℕ) (s : Scan) → Leads s (on_small b s) (λ x. letter_of x b)
+letter-leads b (in_name w r) =
+    quiet (in_name w r) (on_small b (in_name w r)) (λ x. letter_of x b) refl
+    (λ q. ap (λ (c : ℕ). Some (state_at (InName c) q)) (code-more 0 w b))
+letter-leads b s =
+    alike s (on_small b s) (to_begin (InName (next_letter 0 b))) (λ x. letter_of x b) (λ q. refl) (begin-leads s (on_small b s) refl)
 
-digit-leads : (b : ℕ) (s : Scan) → Leads s (on_digit b s) (digit_of (picture s) b)
-digit-leads b fresh = quiet refl refl refl
-digit-leads b (gap r) = quiet refl refl refl
-digit-leads b (in_sg r) = lost refl refl
-digit-leads b (in_ka r) = lost refl refl
-digit-leads b (in_name w r) = named-ends w r (InNumber 1 (next_digit 0 b)) refl refl
-digit-leads b (in_number n w r) = at (ltb n 10)
+digit-leads : (b : ℕ) (s : Scan) → Leads s (on_digit b s) (λ x. digit_of x b)
+digit-leads b (in_number n w r) = at (ltb n 10) refl
   where
-    at : (t : Bool)
-        → Leads (in_number n w r) (cond t (in_number (suc n) (w ++ (b ∷ [])) r) (gap wrong))
-        (cond t (turn_to None (InNumber (n + 1) (next_digit (number_of w) b)) (place_of r)) lost_turn)
-    at true = quiet (rw (number_more 0 w b, add-one n)) refl refl
-    at false = lost refl refl
-
--- BLANKS
-
-unspaced : (p : Place) → is_wrong (spaced_to p) ≡ false → is_wrong p ≡ false
-unspaced Wrong h = h
-unspaced p h = refl
-
-spaced-leads : (s : Scan) (r : Read) (t : Maybe Token) (p : Place) → place_of r ≡ p
-    → (is_wrong (place_of r) ≡ false → noted (notes_in s) (picture s).place t ≡ notes_of r)
-    → Leads s (gap (spaced r)) (turn_to t Between (spaced_to p))
-spaced-leads s r t p e n =
-    record {
-      scanner-is = ap (scanner_at Between) (ap spaced_to (sym e) ∙ sym (place-spaced r));
-      notes_are = λ h. n (unspaced (place_of r) (ap is_wrong (sym (place-spaced r)) ∙ h)) ∙ sym (notes-spaced r h);
-    }
-
-blank-leads : (s : Scan) → Leads s (on_blank s) (blank_of (picture s))
-blank-leads fresh = lost refl refl
-blank-leads (gap r) = spaced-leads (gap r) r None (place_of r) refl (λ h. refl)
-blank-leads (in_sg r) = lost refl refl
-blank-leads (in_ka r) = lost refl refl
-blank-leads (in_name w r) =
-    spaced-leads (in_name w r) (feed r (name w)) (Some (token_of (name w))) (next_of (place_of r) (token_of (name w))) (place-fed r (name w))
-    (λ h. sym (notes-fed r (name w) h))
-blank-leads (in_number n w r) =
-    spaced-leads (in_number n w r) (feed r (number w)) (Some (token_of (number w))) (next_of (place_of r) (token_of (number w))) (place-fed r (number w))
-    (λ h. sym (notes-fed r (number w) h))
+    at : (t : Bool) → ltb n 10 ≡ t → Leads (in_number n w r) (cond t (in_number (suc n) (w ++ (b ∷ [])) r) (gap wrong)) (λ x. digit_of x b)
+    at true e =
+        quiet (in_number n w r) (in_number (suc n) (w ++ (b ∷ [])) r) (λ x. digit_of x b) refl (λ q. rw (e, number_more 0 w b, add-one n) refl)
+    at false e = lost (in_number n w r) (gap wrong) (λ x. digit_of x b) refl (λ q. rw e refl)
+digit-leads b s =
+    alike s (on_digit b s) (to_begin (InNumber 1 (next_digit 0 b))) (λ x. digit_of x b) (λ q. refl) (begin-leads s (on_digit b s) refl)
 
 -- THE LAST BYTE OF SG, amet/ AND KA
 
 -- a piece that is read whole at its last byte
-piece-leads : (s : Scan) (p : Piece) → (picture s).place ≡ place_of (read_before s)
-    → Leads s (gap (feed (read_before s) p)) (turn_to (Some (token_of p)) Between (next_of (picture s).place (token_of p)))
-piece-leads s p e =
-    record {
-      scanner-is = ap (scanner_at Between) (ap (λ (q : Place). next_of q (token_of p)) e ∙ sym (place-fed (read_before s) p));
-      notes_are = λ h. ap (λ (q : Place). note_of (notes_in s) q (token_of p)) e ∙ sym (notes-fed (read_before s) p h);
-    }
+piece-leads : (s : Scan) (p : Piece) (f : Scanner → Maybe Turn)
+    → ((q : Point) → f (state_at (mode_of s) q).scanner ≡ option_map (turn_to (Some (token_of p)) Between) (next_of q.place (token_of p)))
+    → Leads s (gap (feed (read_before s) p)) f
+piece-leads s p f h =
+    leads s (gap (feed (read_before s) p)) f (fed (token_of p)) (fed-image (read_before s) p)
+    (λ q. told (mode_of s) Between q (token_of p) (next_of q.place (token_of p)) ∙ ap (option_map (turned (state_at (mode_of s) q))) (sym (h q)))
 
-slash_leads : (s : Scan) → Fine s → Leads s (on_slash s) (last_of (picture s) (is_in_amet (picture s).mode) Amet)
-slash_leads (in_name w r) h = rw (code_same h amet (omega arith)) (at (same w (bytes "amet")))
+abbrev at_slash : Scanner → Maybe Turn
+at_slash x = last_of x (is_in_amet x.mode) Amet
+
+slash_leads : (s : Scan) → Fine s → Leads s (on_slash s) at_slash
+slash_leads (in_name w r) h = at (same w (bytes "amet")) (code_same h amet (omega arith))
   where
-    at : (t : Bool)
-        → Leads (in_name w r) (gap (cond t (feed r amet/) wrong)) (cond t (turn_to (Some Amet) Between (next_of (place_of r) Amet)) lost_turn)
-    at true = piece-leads (in_name w r) amet/ refl
-    at false = lost refl refl
-slash_leads s h = lost refl refl
+    at : (t : Bool) → eqb (code_of w) (code_of (bytes "amet")) ≡ t → Leads (in_name w r) (gap (cond t (feed r amet/) wrong)) at_slash
+    at true e = piece-leads (in_name w r) amet/ at_slash (λ q. rw e refl)
+    at false e = lost (in_name w r) (gap wrong) at_slash refl (λ q. rw e refl)
+slash_leads s h = lost s (gap wrong) at_slash refl (λ q. refl)
 
-G-leads : (s : Scan) → Leads s (on_g s) (last_of (picture s) (is_in_sg (picture s).mode) Sg)
-G-leads (in_sg r) = piece-leads (in_sg r) SG refl
-G-leads s = lost refl refl
+abbrev at_G : Scanner → Maybe Turn
+at_G x = last_of x (is_in_sg x.mode) Sg
 
-A-leads : (s : Scan) → Leads s (on_a s) (last_of (picture s) (is_in_ka (picture s).mode) Ka)
-A-leads (in_ka r) = piece-leads (in_ka r) KA refl
-A-leads s = lost refl refl
+G-leads : (s : Scan) → Leads s (on_g s) at_G
+G-leads (in_sg r) = piece-leads (in_sg r) SG at_G (λ q. refl)
+G-leads s = lost s (gap wrong) at_G refl (λ q. refl)
 
--- THE FIRST BYTE OF SG AND KA
+abbrev at_A : Scanner → Maybe Turn
+at_A x = last_of x (is_in_ka x.mode) Ka
 
-closed-leads : (m : Mode) (s t : Scan) → picture t ≡ scanner_at m (place_of (closed s)) → read_before t ≡ closed s → Leads s t (begin_of (picture s) m)
-closed-leads m fresh t e b = quiet (sym e) refl (sym (ap notes_of b))
-closed-leads m (gap r) t e b = quiet (sym e) refl (sym (ap notes_of b))
-closed-leads m (in_sg r) t e b = lost (sym e) (ap place_of b)
-closed-leads m (in_ka r) t e b = lost (sym e) (ap place_of b)
-closed-leads m (in_name w r) t e b = named-ends w r m e b
-closed-leads m (in_number n w r) t e b = number-ends n w r m e b
+A-leads : (s : Scan) → Leads s (on_a s) at_A
+A-leads (in_ka r) = piece-leads (in_ka r) KA at_A (λ q. refl)
+A-leads s = lost s (gap wrong) at_A refl (λ q. refl)
 
--- MARKS OF ONE BYTE
+-- BLANKS AND MARKS BEHIND A NAME OR A NUMBER
+
+then_then : (g f : Point → Maybe Point) (o : Maybe Point)
+    → option_and_then g (option_and_then f o) ≡ option_and_then (λ q. option_and_then g (f q)) o
+then_then g f None = refl
+then_then g f (Some q) = refl
+
+-- a piece ends, and is told; then what has been read goes on by g
+behind-leads : (s : Scan) (c : Piece) (t : Read) (f : Scanner → Maybe Turn) (g : Point → Maybe Point)
+    → image t ≡ option_and_then g (image (feed (read_before s) c))
+    → ((q : Point) → option_map (state_at Between) (option_and_then g (fed (token_of c) q)) ≡ moved f (state_at (mode_of s) q))
+    → Leads s (gap t) f
+behind-leads s c t f g e h =
+    leads s (gap t) f (λ q. option_and_then g (fed (token_of c) q))
+    (e ∙ ap (option_and_then g) (fed-image (read_before s) c) ∙ then_then g (fed (token_of c)) (image (read_before s))) h
+
+-- what has been read with c, at the place that there is
+abbrev with_piece : Point → Token → Maybe Place → Maybe Point
+with_piece q c o = option_map (λ p. point p (note_of q.notes q.place c)) o
+
+-- the turn that tells c, to the place that there is
+abbrev telling : Mode → Point → Token → Maybe Place → Maybe State
+telling m q c o = option_map (turned (state_at m q)) (option_map (turn_to (Some c) Between) o)
+
+blank-behind : (m : Mode) (q : Point) (c : Token) (o : Maybe Place)
+    → option_map (state_at Between) (option_and_then blanked (with_piece q c o)) ≡ telling m q c (option_and_then spaced_to o)
+blank-behind m q c None = refl
+blank-behind m q c (Some p) = told m Between q c (spaced_to p)
+
+blank-leads : (s : Scan) → Leads s (on_blank s) blank_of
+blank-leads fresh = lost fresh (gap wrong) blank_of refl (λ q. refl)
+blank-leads (gap r) = leads (gap r) (gap (spaced r)) blank_of blanked (spaced-image r) (λ q. untold Between Between q (spaced_to q.place))
+blank-leads (in_sg r) = lost (in_sg r) (gap wrong) blank_of refl (λ q. refl)
+blank-leads (in_ka r) = lost (in_ka r) (gap wrong) blank_of refl (λ q. refl)
+blank-leads (in_name w r) =
+    behind-leads (in_name w r) (name w) (spaced (feed r (name w))) blank_of blanked (spaced-image (feed r (name w)))
+    (λ q. blank-behind (mode_of (in_name w r)) q (token_of (name w)) (next_of q.place (token_of (name w))))
+blank-leads (in_number n w r) =
+    behind-leads (in_number n w r) (number w) (spaced (feed r (number w))) blank_of blanked (spaced-image (feed r (number w)))
+    (λ q. blank-behind (mode_of (in_number n w r)) q (token_of (number w)) (next_of q.place (token_of (number w))))
 
 -- a mark is neither a name nor a number; all but the bracket that opens a list say nothing
 abbrev is_mark : Piece → Bool
@@ -193,54 +254,44 @@ silent comma e n q = refl
 silent equals e n q = refl
 silent p e n q = absurd (no (sym e))
 
--- what is lost stays lost
-unlost : (q : Place) (t : Token) → is_wrong (next_of q t) ≡ false → is_wrong q ≡ false
-unlost Wrong t h = h
-unlost q t h = refl
+-- a silent mark behind a name or a number
+silent-behind : (p : Piece) → is_silent p ≡ true → (m : Mode) (q : Point) (c : Token) (o : Maybe Place)
+    → option_map (state_at Between) (option_and_then (fed (token_of p)) (with_piece q c o)) ≡ telling m q c (option_and_then (λ x. next_of x (token_of p)) o)
+silent-behind p e m q c None = refl
+silent-behind p e m q c (Some x) =
+    ap (λ (n : Notes). option_map (state_at Between) (option_map (λ y. point y n) (next_of x (token_of p)))) (silent p e (note_of q.notes q.place c) x)
+    ∙ told m Between q c (next_of x (token_of p))
 
-module _ (s : Scan) (r : Read) (c : Token) (place_is : place_of r ≡ next_of (picture s).place c)
-    (notes-are' : is_wrong (place_of r) ≡ false → note_of (notes_in s) (picture s).place c ≡ notes_of r) where
-  -- a silent mark behind a name or a number
-  silent-leads : (p : Piece) → is_silent p ≡ true
-      → Leads s (gap (feed r p)) (turn_to (Some c) Between (next_of (next_of (picture s).place c) (token_of p)))
-  silent-leads p e =
-      record {
-        scanner-is = ap (scanner_at Between) (ap (λ (q : Place). next_of q (token_of p)) (sym place_is) ∙ sym (place-fed r p));
-        notes_are = λ h.
-            notes-are' (unlost (place_of r) (token_of p) (ap is_wrong (sym (place-fed r p)) ∙ h))
-            ∙ sym (notes-fed r p h ∙ silent p e (notes_of r) (place_of r));
-      }
+-- no list opens there
+list-behind : (m : Mode) (q : Point) (c : Token) (o : Maybe Place) → option_and_then (λ x. next_of x From) o ≡ None
+    → option_map (state_at Between) (option_and_then (fed From) (with_piece q c o)) ≡ telling m q c (option_and_then (λ x. next_of x From) o)
+list-behind m q c None e = refl
+list-behind m q c (Some x) e = rw e refl
 
-  -- no list opens there
-  list-leads : next_of (next_of (picture s).place c) From ≡ Wrong
-      → Leads s (gap (feed r from)) (turn_to (Some c) Between (next_of (next_of (picture s).place c) From))
-  list-leads e =
-      lost (ap (scanner_at Between) (ap (λ (q : Place). next_of q From) (sym place_is) ∙ sym (place-fed r from)))
-      (place-fed r from ∙ ap (λ (q : Place). next_of q From) place_is ∙ e)
+mark-behind : (p : Piece) → is_mark p ≡ true → (m : Mode) (q : Point) (c : Token) (o : Maybe Place) → option_and_then (λ x. next_of x From) o ≡ None
+    → option_map (state_at Between) (option_and_then (fed (token_of p)) (with_piece q c o)) ≡ telling m q c (option_and_then (λ x. next_of x (token_of p)) o)
+mark-behind opens e m q c o l = silent-behind opens refl m q c o
+mark-behind shuts e m q c o l = silent-behind shuts refl m q c o
+mark-behind to e m q c o l = silent-behind to refl m q c o
+mark-behind comma e m q c o l = silent-behind comma refl m q c o
+mark-behind equals e m q c o l = silent-behind equals refl m q c o
+mark-behind from e m q c o l = list-behind m q c o l
+mark-behind p e m q c o l = absurd (no (sym e))
 
--- a mark behind a name or a number
-ended-leads : (s : Scan) (r : Read) (c : Token) → place_of r ≡ next_of (picture s).place c
-    → (is_wrong (place_of r) ≡ false → note_of (notes_in s) (picture s).place c ≡ notes_of r)
-    → next_of (next_of (picture s).place c) From ≡ Wrong
-    → (p : Piece) → is_mark p ≡ true
-    → Leads s (gap (feed r p)) (turn_to (Some c) Between (next_of (next_of (picture s).place c) (token_of p)))
-ended-leads s r c e n l opens q = silent-leads s r c e n opens refl
-ended-leads s r c e n l shuts q = silent-leads s r c e n shuts refl
-ended-leads s r c e n l to q = silent-leads s r c e n to refl
-ended-leads s r c e n l comma q = silent-leads s r c e n comma refl
-ended-leads s r c e n l equals q = silent-leads s r c e n equals refl
-ended-leads s r c e n l from q = list-leads s r c e n l
-ended-leads s r c e n l p q = absurd (no (sym q))
+abbrev at_mark : Piece → Scanner → Maybe Turn
+at_mark p x = mark_of x (token_of p)
 
-mark-leads : (p : Piece) → is_mark p ≡ true → (s : Scan) → Leads s (gap (feed (closed s) p)) (mark_of (picture s) (token_of p))
-mark-leads p e fresh = piece-leads fresh p refl
-mark-leads p e (gap r) = piece-leads (gap r) p refl
-mark-leads p e (in_sg r) = lost refl refl
-mark-leads p e (in_ka r) = lost refl refl
+mark-leads : (p : Piece) → is_mark p ≡ true → (s : Scan) → Leads s (gap (feed (closed s) p)) (at_mark p)
+mark-leads p e fresh = piece-leads fresh p (at_mark p) (λ q. refl)
+mark-leads p e (gap r) = piece-leads (gap r) p (at_mark p) (λ q. refl)
+mark-leads p e (in_sg r) = lost (in_sg r) (gap (feed wrong p)) (at_mark p) refl (λ q. refl)
+mark-leads p e (in_ka r) = lost (in_ka r) (gap (feed wrong p)) (at_mark p) refl (λ q. refl)
 mark-leads p e (in_name w r) =
-    ended-leads (in_name w r) (feed r (name w)) (token_of (name w)) (place-fed r (name w)) (λ h. sym (notes-fed r (name w) h)) (no-list-named r (code_of w)) p e
+    behind-leads (in_name w r) (name w) (feed (feed r (name w)) p) (at_mark p) (fed (token_of p)) (fed-image (feed r (name w)) p)
+    (λ q. mark-behind p e (mode_of (in_name w r)) q (token_of (name w)) (next_of q.place (token_of (name w))) (no-list-named q.place (code_of w)))
 mark-leads p e (in_number n w r) =
-    ended-leads (in_number n w r) (feed r (number w)) (token_of (number w)) (place-fed r (number w)) (λ h. sym (notes-fed r (number w) h)) (no-list_numbered r (number_of w)) p e
+    behind-leads (in_number n w r) (number w) (feed (feed r (number w)) p) (at_mark p) (fed (token_of p)) (fed-image (feed r (number w)) p)
+    (λ q. mark-behind p e (mode_of (in_number n w r)) q (token_of (number w)) (next_of q.place (token_of (number w))) (no-list_numbered q.place (number_of w)))
 
 -- ONE BYTE MORE
 
@@ -275,19 +326,19 @@ all-proper b =
     (proper_if (eqb b 75) (is-proper K refl)
     (proper_if (eqb b 65) (is-proper A refl) (is-proper other refl))))))))))))))
 
-class_leads : (c : Class) → proper c ≡ true → (b : ℕ) (s : Scan) → Fine s → Leads s (on_class c b s) (turn_on c (picture s) b)
+class_leads : (c : Class) → proper c ≡ true → (b : ℕ) (s : Scan) → Fine s → Leads s (on_class c b s) (λ x. turn_on c x b)
 class_leads (mark p) e b s h = mark-leads p e s
 class_leads small e b s h = letter-leads b s
 class_leads digit e b s h = digit-leads b s
 class_leads blank e b s h = blank-leads s
 class_leads slash e b s h = slash_leads s h
-class_leads S e b s h = closed-leads InSg s (in_sg (closed s)) refl refl
+class_leads S e b s h = begin-leads s (in_sg (closed s)) refl
 class_leads G e b s h = G-leads s
-class_leads K e b s h = closed-leads InKa s (in_ka (closed s)) refl refl
+class_leads K e b s h = begin-leads s (in_ka (closed s)) refl
 class_leads A e b s h = A-leads s
-class_leads other e b s h = lost refl refl
+class_leads other e b s h = lost s (gap wrong) (λ x. turn_on other x b) refl (λ q. refl)
 
-pub step-leads : (b : ℕ) (s : Scan) → Fine s → Leads s (scan s b) (turn_of (picture s) b)
+pub step-leads : (b : ℕ) (s : Scan) → Fine s → picture (scan s b) ≡ option_and_then (stepped b) (picture s)
 unfolding turn_of
 step-leads b s h = class_leads (class_of b) (all-proper b).test b s h
 
@@ -331,9 +382,12 @@ fine_more s h (seen-K e) = tt
 fine_more s h (seen_A e) = fine_A s
 fine_more s h seen_other = tt
 
+pub fine-step : (b : ℕ) (s : Scan) → Fine s → Fine (scan s b)
+fine-step b s h = fine_more s h (seen b)
+
 all-fine : (l : List ℕ) (s : Scan) → Fine s → Fine (scans s l)
 all-fine [] s h = h
-all-fine (b ∷ l) s h = all-fine l (scan s b) (fine_more s h (seen b))
+all-fine (b ∷ l) s h = all-fine l (scan s b) (fine-step b s h)
 
 pub fine : (l : List ℕ) → Fine (scans fresh l)
 fine l = all-fine l fresh tt

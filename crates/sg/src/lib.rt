@@ -7,7 +7,7 @@ ghost use Rattle.sg.specs.Readings.{read_of};
 use descriptor::Refusal;
 use notes::Notes;
 use outcomes::Reading;
-use scanner::{Place, Scanner};
+use scanner::Scanner;
 
 // What a text reads as. It is refused where the grammar does not have it, and then where its names or values are wrong.
 #[tactic(auto, using(crate::proofs::Loop::answers))]
@@ -17,10 +17,7 @@ pub fn read(text: &[u8]) -> Result<Reading, Refusal>
     let mut scanner = Scanner::fresh();
     let mut notes = Notes::none();
     for &b in text {
-        let turn = scanner.step(b);
-        if turn.scanner.place == Place::Wrong {
-            return Err(Refusal::Grammar);
-        }
+        let turn = scanner.step(b).ok_or(Refusal::Grammar)?;
         if let Some(token) = turn.token {
             notes.note(scanner.place, token);
         }
