@@ -8,13 +8,13 @@ mod pending;
 mod ticks;
 
 use cards::Card;
+use lines::Input;
 use outlet::Outlet;
 use std::io;
 
 // Stays: each program has its main, and only a main gets the runtime.
 fn main(rt: HostRuntime) -> io::Result<()> {
-    let mut from = rt.stdin();
-    let mut inp = [0u8; 65536];
+    let mut input = Input::<_, 65536>::new(rt.stdin());
     let mut out = Outlet::new(rt.stdout());
-    programs::serve(&mut Card::new(), &mut from, &mut inp, &mut out)
+    programs::serve(&mut Card::new(), &mut input, &mut out)
 }

@@ -8,7 +8,7 @@ use native.Mathlib.Omega.{arith}
 use borrow.Author.Tests.{le-leb, lt-leb, lt-ltb, le-ltb}
 use lib.ListN.{length, drop}
 use lib.Seq.{take-nil, drop-nil, take_all}
-use Rattle.lines.specs.declared.Input.{Input}
+use Rattle.lines.specs.declared.progress.Progress.{Progress}
 use Rattle.lines.specs.Spans.{part, at_front, held}
 use Rattle.lines.specs.Squeezing.{squeezed}
 use Rattle.lines.specs.Rooms.{is_full, fronted, room_of}
@@ -25,7 +25,7 @@ full s e (x ∷ m) h =
     rw none (take_all (e - 0) (x ∷ m) (omega arith))
 
 -- room is made: what is moved or squeezed is what is kept
-module _ (buf : List ℕ) (i : Input) (start end : ℕ) (ends : end ≡ min i.end (length buf)) (starts : start ≡ min i.start end) where
+module _ (buf : List ℕ) (i : Progress) (start end : ℕ) (ends : end ≡ min i.end (length buf)) (starts : start ≡ min i.start end) where
   size : end - start ≡ length (held buf i)
   size = let n = length_part i.start i.end buf in omega arith
 

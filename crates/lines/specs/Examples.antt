@@ -1,6 +1,6 @@
 -- A buffer of eight bytes, into which `ab`, a line feed and `c` were read.
 use Rattle.std.specs.Prelude.{◌≡◌, refl, true, false, Some, None, List, [], ◌∷◌, ◌++◌, ℕ, replicate}
-use Rattle.lines.specs.declared.Input.{Input}
+use Rattle.lines.specs.declared.progress.Progress.{Progress}
 use Rattle.lines.specs.Spans.{part, at_front, begun, next_of, over_of, past_of}
 use Rattle.lines.specs.Squeezing.{squeezed_from, squeezed}
 use Rattle.lines.specs.Rooms.{fronted, room_of, fed_of}
@@ -9,7 +9,7 @@ abbrev buf : List ℕ
 buf = 97 ∷ 98 ∷ 10 ∷ 99 ∷ 0 ∷ 0 ∷ 0 ∷ 0 ∷ []
 
 -- the four bytes came
-abbrev read : Input
+abbrev read : Progress
 read = fed_of begun 8 4
 
 pub came : read ≡ at_front 4 false

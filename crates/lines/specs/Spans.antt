@@ -2,7 +2,7 @@
 use Rattle.std.specs.Prelude.{Bool, true, false, if◌then◌else◌, not, ◌&&◌, ◌||◌, Option, Some, None, is_some}
 use Rattle.std.specs.Prelude.{ℕ, ◌+◌, ◌-◌, ◌==◌, min, nat_lt, List, length, take, drop}
 use Rattle.std.specs.List.{position_or_len}
-use Rattle.lines.specs.declared.Input.{Input}
+use Rattle.lines.specs.declared.progress.Progress.{Progress}
 use Rattle.lines.specs.declared.Span.{Span}
 
 -- the byte that ends a line
@@ -25,32 +25,32 @@ abbrev pub has_feed : List ℕ → Bool
 has_feed l = nat_lt (before_feed l) (length l)
 
 -- what is held stands at the front, up to `end`
-abbrev pub at_front : ℕ → Bool → Input
+abbrev pub at_front : ℕ → Bool → Progress
 at_front end dropped = record { start = 0; end = end; dropped = dropped; came = true }
 
 -- before the first read
-abbrev pub begun : Input
+abbrev pub begun : Progress
 begun = at_front 0 false
 
 -- what is read and not yet taken
-abbrev pub held : List ℕ → Input → List ℕ
+abbrev pub held : List ℕ → Progress → List ℕ
 held buf i = part i.start i.end buf
 
 -- whether a last line without a line feed is left: the input has ended, and bytes are left or were dropped
-abbrev pub last_of : Input → Bool
+abbrev pub last_of : Progress → Bool
 last_of i = not i.came && (i.dropped || nat_lt i.start i.end)
 
 -- the next line, if there is one: what stands before the first line feed, or all that is left where the input has ended
-abbrev pub next_of : List ℕ → Input → Option Span
+abbrev pub next_of : List ℕ → Progress → Option Span
 next_of buf i =
     if has_feed (held buf i) || last_of i
     then Some (record { whole = not i.dropped; from = i.start; to = i.start + before_feed (held buf i) })
     else None
 
 -- the input has ended and no line is left
-abbrev pub over_of : Input → Option Span → Bool
+abbrev pub over_of : Progress → Option Span → Bool
 over_of i line = not (is_some line || i.came)
 
 -- past a line that ends at `to`, and past its line feed if it has one
-abbrev pub past_of : Input → ℕ → Input
+abbrev pub past_of : Progress → ℕ → Progress
 past_of i to = record { start = min (to + 1) i.end; end = i.end; dropped = false; came = i.came }

@@ -1,8 +1,10 @@
-// Reads of the input into the buffer.
+// Reads of the input into its buffer.
 ghost use Rattle.std.specs.Prelude.{◌≡◌, ◌-◌, ◌≤◌, length, take};
 ghost use Rattle.lines.specs.Reads.{More, Onward};
+ghost use Rattle.lines.specs.Rooms.{fronted, room_of};
 
-use super::{Input, Span};
+use super::squeezing::squeeze;
+use super::{Input, Progress, Span};
 use std::io::Read;
 
 // Reads once, to the places from `end` on, and answers how many bytes came: 0 at the end of the input, and where the
@@ -15,23 +17,46 @@ fn read_once(from: &mut impl Read, buf: &mut [u8], end: usize) -> usize
     from.read(&mut buf[end..]).unwrap_or(0)
 }
 
-impl Input {
-    // After one more read.
-    fn more(self, from: &mut impl Read, buf: &mut [u8]) -> Input
-        ensures { More buf.old self buf.new result }
+impl<R: Read, const N: usize> Input<R, N> {
+    // Makes room for more: what is not yet taken moves to the front. Where it fills the buffer, bytes that say nothing
+    // are left out of it, and it is dropped if over half of the buffer is taken still.
+    #[tactic(auto, using(crate::proofs::RoomLaws::rooms))]
+    fn make_room(&mut self)
+        ensures progress { self.new.at ≡ room_of self.old.buf self.old.at }
+        ensures buffer { self.new.buf ≡ fronted self.old.buf self.old.at }
     {
-        let room = self.with_room(buf);
-        let got = read_once(from, buf, room.end);
-        room.fed(buf.len(), got)
+        let end = self.at.end.min(N);
+        let start = self.at.start.min(end);
+        let held = end - start;
+        if held < N {
+            self.buf.copy_within(start..end, 0);
+            self.at = Progress::at_front(held, self.at.dropped);
+            return;
+        }
+        let kept = squeeze(&mut self.buf);
+        self.at = if N / 2 < kept {
+            Progress::at_front(0, true)
+        } else {
+            Progress::at_front(kept, self.at.dropped)
+        };
     }
 
-    // Past a line, or after one more read where there is none.
-    pub fn onward(self, from: &mut impl Read, buf: &mut [u8], line: Option<Span>) -> Input
-        ensures { Onward line buf.old self buf.new result }
+    // Reads once more.
+    fn more(&mut self)
+        ensures { More self.old.buf self.old.at self.new.buf self.new.at }
+    {
+        self.make_room();
+        let got = read_once(&mut self.from, &mut self.buf, self.at.end);
+        self.at = self.at.fed(N, got);
+    }
+
+    // Goes past a line, or reads once more where there is none.
+    pub fn onward(&mut self, line: Option<Span>)
+        ensures { Onward line self.old.buf self.old.at self.new.buf self.new.at }
     {
         match line {
-            Some(line) => self.past(line.to),
-            None => self.more(from, buf),
+            Some(line) => self.at = self.at.past(line.to),
+            None => self.more(),
         }
     }
 }

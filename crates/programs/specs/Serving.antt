@@ -2,9 +2,9 @@
 use Rattle.std.specs.Prelude.{◌≡◌, ◌⊎◌, ⊤, Bool, true, false, if◌then◌else◌, Option, Some, None, List, [], ℕ, zero, suc}
 use Rattle.std.specs.Io.{StartsWith}
 use Rattle.std.specs.Io.KnownBytes.{Keeps}
-use Rattle.lines.specs.declared.Input.{Input}
+use Rattle.lines.specs.declared.progress.Progress.{Progress}
 use Rattle.lines.specs.declared.Span.{Span}
-use Rattle.lines.specs.Spans.{begun, part, next_of, over_of}
+use Rattle.lines.specs.Spans.{part, next_of, over_of}
 use Rattle.lines.specs.Reads.{Onward}
 
 -- known bytes stay at the front
@@ -16,7 +16,7 @@ Grows (Some xs) (Some ys) = StartsWith ys xs
 -- what was read of an input and not yet taken, the buffer that it lies in, the program that takes it, and what is known
 -- of its output
 pub record Stand (A : Type 0) : Type 0 where
-  pub input : Input
+  pub input : Progress
   pub buf : List ℕ
   pub program : A
   pub output : Option (List ℕ)
@@ -66,12 +66,12 @@ module _ {A : Type 0} (reads : A → List ℕ → A → Type 0)
   Steps zero s t = t ≡ s
   Steps (suc n) s t = (m : Stand A) × Steps n s m × Step m t
 
-  -- from the beginning of an input to its end, or for as many steps as are counted; then the program stays as it is,
-  -- and known output stays at the front
-  pub record Serves (buf : List ℕ) (old new : A) (before after : Option (List ℕ)) : Type 0 where
+  -- from where an input stands to its end, or for as many steps as are counted; then the program stays as it is, and
+  -- known output stays at the front
+  pub record Serves (at : Progress) (buf : List ℕ) (old new : A) (before after : Option (List ℕ)) : Type 0 where
     pub steps : ℕ
     pub last : Stand A
-    pub taken : Steps steps (record { input = begun; buf = buf; program = old; output = before }) last
+    pub taken : Steps steps (record { input = at; buf = buf; program = old; output = before }) last
     pub ends : (is_over last ≡ true) ⊎ (steps ≡ most_steps)
     pub program : last.program ≡ new
     pub output : Grows last.output after

@@ -43,46 +43,43 @@ pub trait Program<W: Write> {
     }
 }
 
-// Hands over the line that stands at a span of the buffer. Where there is no line yet, the outlet is flushed, and known
-// output stays as it is.
-fn react<W: Write, P: Program<W>>(
+// Hands over a line of the input. Where there is no line yet, the outlet is flushed, and known output stays as it is.
+fn react<R, const N: usize, W: Write, P: Program<W>>(
     program: &mut P,
-    inp: &[u8],
+    input: &Input<R, N>,
     line: Option<Span>,
     out: &mut Outlet<W>,
 ) -> io::Result<()>
-    ensures program { Handed P.reads inp.now line program.old program.new }
-    ensures output { OnOk result (Put P.puts inp.now line program.old (known_of W.contents out.old)
+    ensures program { Handed P.reads input.now.buf line program.old program.new }
+    ensures output { OnOk result (Put P.puts input.now.buf line program.old (known_of W.contents out.old)
         (known_of W.contents out.new)) }
 {
     match line {
-        Some(line) if line.whole => program.read(lines::text(inp, line), out),
+        Some(line) if line.whole => program.read(input.text(line), out),
         Some(_) => program.too_long(out),
         None => out.flush(),
     }
 }
 
-// Hands over each line of the input, and closes at its end. Where it answers Ok, nothing is held back, known output
-// changed as the program says of each line, and what was known before the close stays at the front. A proved loop has to
-// end, and nothing says that the input does: the steps are counted up to a number that no run reaches.
-pub fn serve<W: Write, P: Program<W>>(
+// Hands over each line of the input that is not yet taken, and closes at its end. Where it answers Ok, nothing is held
+// back, known output changed as the program says of each line, and what was known before the close stays at the front. A
+// proved loop has to end, and nothing says that the input does: the steps are counted up to a number that no run reaches.
+pub fn serve<R: Read, const N: usize, W: Write, P: Program<W>>(
     program: &mut P,
-    from: &mut impl Read,
-    inp: &mut [u8],
+    input: &mut Input<R, N>,
     out: &mut Outlet<W>,
 ) -> io::Result<()>
     ensures sent { OnOk result (out.new.held.items ≡ []) }
-    ensures served { OnOk result (Serves P.reads P.puts inp.old program.old program.new
+    ensures served { OnOk result (Serves P.reads P.puts input.old.at input.old.buf program.old program.new
         (known_of W.contents out.old) (known_of W.contents out.new)) }
 {
-    let mut input = Input::new();
     for _ in 0..u64::MAX {
-        let line = input.next(inp);
+        let line = input.next();
         if input.is_over(line) {
             break;
         }
-        react(program, inp, line, out)?;
-        input = input.onward(from, inp, line);
+        react(program, input, line, out)?;
+        input.onward(line);
     }
     program.close(out)
 }

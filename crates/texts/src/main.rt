@@ -3,6 +3,7 @@
 
 mod readings;
 
+use lines::Input;
 use outlet::Outlet;
 use programs::Program;
 use std::io;
@@ -24,8 +25,7 @@ impl Program<Stdout> for Texts {
 
 // Stays: each program has its main, and only a main gets the runtime.
 fn main(rt: HostRuntime) -> io::Result<()> {
-    let mut from = rt.stdin();
-    let mut inp = [0u8; 65536];
+    let mut input = Input::<_, 65536>::new(rt.stdin());
     let mut out = Outlet::new(rt.stdout());
-    programs::serve(&mut Texts, &mut from, &mut inp, &mut out)
+    programs::serve(&mut Texts, &mut input, &mut out)
 }

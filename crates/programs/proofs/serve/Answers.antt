@@ -6,7 +6,7 @@ use Rattle.programs.proofs.serve.Goals as goal
 use Rattle.programs.proofs.serve.Goals.{else-loop-test, then-loop-test+then-is_over}
 
 pub loop-init : goal.loop-init
-loop-init g c = rw c.new-input.ensures (no_step g.P.Program.reads g.P.Program.puts _)
+loop-init g c = no_step g.P.Program.reads g.P.Program.puts _
 
 pub loop-preserved : goal.loop-preserved
 loop-preserved g c =
@@ -15,7 +15,7 @@ loop-preserved g c =
       more = rw (c.is_over.ensures, c.next-line.ensures) at c.if-is_over.false;
       handed = rw c.next-line.ensures at c.in_ok-react.ensures.program;
       put = rw c.next-line.ensures at c.in_ok-react.ensures.output;
-      onward = rw c.next-line.ensures at c.onward-input.ensures;
+      onward = rw c.next-line.ensures at c.onward.ensures;
     })
 
 pub returns-clause-served : goal.returns-clause-served
