@@ -27,7 +27,7 @@ use Rattle.group.specs.Groups.{rate_of, rated_row}
 -- ---- one line
 module _ (l : Line) (P : ℕ) where
   abbrev ruled : Ruling
-  ruled = descriptor_ruling l.spacing (is_endless l.state.tariff) (is_running l.state.burst) (Rate P) no_table Keep
+  ruled = descriptor_ruling l.spacing (is_endless l.state.timed.tariff) (is_running l.state.burst) (Rate P) no_table Keep
 
   abbrev rated : Line
   rated = with_state l (with_rate l.state P)
