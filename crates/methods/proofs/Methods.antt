@@ -26,10 +26,10 @@ use Rattle.answers.specs.declared.Tick.{Tick}
 use Rattle.line.specs.Lines.{make_of, describe_text_of, tick_of}
 use Rattle.line.specs.declared.Line.{Line}
 use Rattle.demand.specs.Calls.{tick, accepted, refused, ticked}
-use Rattle.demand.specs.Machine.{verdict_told, outcome, step, history}
-use Rattle.methods.specs.Methods.{Of, ensuring, Meeting, Does, Methods}
+use Rattle.demand.specs.Machine.{outcome, step, history}
+use Rattle.methods.specs.Methods.{Of, making_told, ensuring, Meeting, Does, Methods}
 
-taken : (D G clock : ℕ) → verdict_told (make_of D G clock).verdict ≡ cond (sound_configuration D G) (accepted 0) (refused 1)
+taken : (D G clock : ℕ) → making_told (make_of D G clock) ≡ cond (sound_configuration D G) (accepted 0) (refused 1)
 unfolding make_of
 taken D G clock = cases (sound_configuration D G) (λ e. rw e) (λ e. rw e)
 
@@ -58,7 +58,7 @@ module _ {M : Type 1} {𝓤 : Ura M} (𝓛 : Logic 𝓤) (𝓜 : Model 𝓤 𝓛
   unfolding step history describe_text_of
   methods =
       record {
-        make = told (λ κs a. (L.make.clauses 𝓛 𝓜.mem 𝓡.returns κs a).ensures tt) (L_code.make.Met.met 𝓤 𝓛 𝓜 𝓡) (λ _ a _ _. fact_mono 𝓤 _ _ (λ e. (rw e (taken a.0 a.1.0 a.1.1.0), λ cs. rw e)));
+        make = told (λ κs a. (L.make.clauses 𝓛 𝓜.mem 𝓡.returns κs a).ensures tt) (L_code.make.Met.met 𝓤 𝓛 𝓜 𝓡) (λ _ a _ _. fact_mono 𝓤 _ _ (λ e. (rw e (taken a.0.pulse a.0.gap a.0.clock), λ cs. rw e)));
         describes = told (λ κs a. (L.describe.clauses 𝓛 𝓜.mem 𝓡.returns κs a).ensures tt) (L_code.describe.Met.met 𝓤 𝓛 𝓜 𝓡) (λ _ _ _ _. fact_mono 𝓤 _ _ (λ e. rw e));
         asks = told (λ κs a. (L.ask.clauses 𝓛 𝓜.mem 𝓡.returns κs a).ensures tt) (L_code.ask.Met.met 𝓤 𝓛 𝓜 𝓡) (λ _ _ _ _. fact_mono 𝓤 _ _ (λ e. rw e));
         commits = told (λ κs a. (L.commit.clauses 𝓛 𝓜.mem 𝓡.returns κs a).ensures tt) (L_code.commit.Met.met 𝓤 𝓛 𝓜 𝓡) (λ _ _ _ _. fact_mono 𝓤 _ _ (λ e. rw e));
