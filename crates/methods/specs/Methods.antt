@@ -1,5 +1,5 @@
 -- What each public method of a line does, in every model of the machine: the step that a list of calls takes.
-use Rattle.std.specs.Prelude.{◌≡◌, cond, List, [], None, Result, Ok, Err}
+use Rattle.std.specs.Prelude.{◌≡◌, false, cond, List, [], ℕ, None, Result, Ok, Err}
 use seplogic.Ra.Ura.{Ura}
 use base.Logic.{SProp, emp}
 use prog.Model.{Model}
@@ -16,6 +16,8 @@ use Rattle.line.specs.Lines.{made_or_blank, meant_by}
 use Rattle.line.specs.declared.Line.{Line}
 use Rattle.line.specs.contracts.Line as L
 use Rattle.line.proofs.Line as L_code
+use Rattle.line.specs.contracts.making.LineDefault.default as blank
+use Rattle.line.proofs.making.LineDefault.default.Symbol as blank_code
 use Rattle.lent.specs.contracts.tick_in_place as lent
 use Rattle.lent.proofs.tick_in_place.Symbol as lent_code
 use Rattle.descriptor.specs.Refusals.{refusal_number, sound_configuration}
@@ -55,6 +57,10 @@ module _ {M : Type 1} {𝓤 : Ura M} (𝓛 : Logic 𝓤) (𝓜 : Model 𝓤 𝓛
         (making_told r ≡ cond (sound_configuration given.pulse given.gap) (accepted 0) (refused 1)) ×
         ((cs : List Call) →
         history given.pulse given.gap given.clock cs ≡ entries (after_calls (past [] (made_or_blank r)) cs)))
+    -- where the configuration is refused, a blank line begins the list
+    pub blank : Does blank.ended blank_code.name blank_code.code
+        (λ _ _ r _. (D G clock : ℕ) (cs : List Call) → sound_configuration D G ≡ false →
+        history D G clock cs ≡ entries (after_calls (past [] r) cs))
     pub describes : Does L.describe.ended L_code.describe.Symbol.name L_code.describe.Symbol.code
         (λ _ (l, (d, _)) r _. step l (describe None (meant_by d)) ≡ answered r)
     pub asks : Does L.ask.ended L_code.ask.Symbol.name L_code.ask.Symbol.code
