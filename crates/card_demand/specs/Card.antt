@@ -7,7 +7,7 @@ use Rattle.phase_lists.specs.Lists.{no_lists}
 use Rattle.descriptor.specs.Refusals.{refusal_number}
 use Rattle.descriptor.specs.declared.TariffPart.TheVariants.{Rate}
 use Rattle.descriptor.specs.declared.BurstPart.TheVariants.{Keep}
-use Rattle.line.specs.Lines.{Verdict, make_of}
+use Rattle.line.specs.Lines.{Verdict, make_of, made_or_blank}
 use Rattle.line.specs.declared.Line.{Line}
 use Rattle.dispatcher.specs.Dispatch.{fresh_dispatcher, wrong_row, sent_by, after_tick}
 use Rattle.dispatcher.specs.declared.Dispatcher.{Dispatcher}
@@ -122,14 +122,15 @@ unfoldable pub after_card_calls : CardPast → List CardCall → CardPast
 after_card_calls p [] = p
 after_card_calls p (c ∷ cs) = after_card_calls (after_card_call p c) cs
 
--- a line's pulse length, gap and clock as it is made
+-- the pulse length, gap and clock that a line is made of
 pub record Making : Type 0 where
   pub D : ℕ
   pub G : ℕ
   pub clock : ℕ
 
+-- the line that is made, or a blank one where they are refused
 abbrev pub made : Making → Line
-made m = (make_of m.D m.G m.clock).line
+made m = made_or_blank (make_of m.D m.G m.clock)
 
 -- from a card of fresh lines, with a fresh dispatcher
 abbrev pub fresh_card : List Making → Card

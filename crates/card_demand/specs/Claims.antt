@@ -82,14 +82,15 @@ module _ (ms : List Making) (cs : List CardCall) where
   abbrev making : ℕ → Making
   making i = get_or ms i no_making
 
-  -- after a part of the history: the length of the row, if there was one, the number of its lines, and the place after
-  -- the last served
+  -- the length of the row after a part of the history, if there was a row by then
   abbrev row : List CardEntry → Option ℕ
   row part = row_in (length ms) part
 
+  -- how many lines the row has: none before its first tick
   abbrev size : List CardEntry → ℕ
   size part = row_length (length ms) part
 
+  -- the place after the last served, at first place 0
   abbrev next : List CardEntry → ℕ
   next part = next_in (length ms) part
 

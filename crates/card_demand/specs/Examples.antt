@@ -3,7 +3,7 @@ use Rattle.std.specs.Prelude.{◌≡◌, refl, true, false, List, [], ◌∷◌,
 use Rattle.std.specs.Prelude.{Option, Some, None}
 use Rattle.answers.specs.declared.Front.TheVariants.{Tariff}
 use Rattle.answers.specs.declared.Tick.{Tick}
-use Rattle.tariff.specs.Tariffs.{em_of, rate_of}
+use Rattle.tariff.specs.Tariffs.{em as one_em, em_of, rate_of}
 use Rattle.rules.specs.Rules.{sound_em, distance_of}
 use Rattle.steps.specs.Steps.{step_of, due_of, after_counted}
 use Rattle.burst.specs.Bursts.{completes_of, aged_of}
@@ -75,7 +75,7 @@ abbrev pub replies : List Making → List CardCall → List CardReply
 replies ms cs = map (λ e. e.reply) (reverse (card_history ms cs))
 
 abbrev pub em : ℕ → ℕ → Call
-em C P = parts (Em C P) no_lists Keep
+em C P = parts (Em (one_em C P)) no_lists Keep
 
 -- in the fifth tick of the dispatcher the lines at places 0 and 1 report, and the tariff of the line at place 2, whose
 -- one pulse began in the fourth, completes; place 0 was served in the first

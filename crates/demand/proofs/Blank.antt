@@ -19,7 +19,7 @@ use Rattle.phase_lists.specs.Lists.{Lists, phases_of, sound_lists}
 use Rattle.descriptor.specs.Refusals.{ruling, sound_configuration, tariff_causes, burst_causes}
 use Rattle.burst.specs.Bursts.{is_running, held_more, aged_of, any_due}
 use Rattle.ticking.specs.Moves.{moved_by}
-use Rattle.line.specs.Lines.{blank_line, make_of, with_serial, ask_of, hook_of, period_of, no_period_of, audit_of, answered_by, scheduled, tariff_changed, burst_changed, with_period, move_of, tick_of}
+use Rattle.line.specs.Lines.{blank_line, make_of, made_or_blank, with_serial, ask_of, hook_of, period_of, no_period_of, audit_of, answered_by, scheduled, tariff_changed, burst_changed, with_period, move_of, tick_of}
 use Rattle.line.specs.declared.Line.{Line}
 use Rattle.grammar.specs.Meaning.{Reading, unreadable, senseless, descriptor}
 use Rattle.demand.specs.Names.{Phase, TariffPart, NoTariff, KeepTariff, Rate, Em, Phased, BurstPart, NoBurst, KeepBurst, Start, KeepHook, Stop, Ruling, Ok, Err}
@@ -34,8 +34,8 @@ use Rattle.demand.proofs.Bounds.{since-bounded}
 -- a line of the largest spacing, with no tariff, at most i ticks after a front
 pub record Quiet (i : ℕ) (l : Line) : Type 0 where
   pub spacing : l.spacing ≡ 4294967295
-  pub tariff : l.state.tariff ≡ Idle
-  pub wait : l.state.wait ≡ 0
+  pub tariff : l.state.timed.tariff ≡ Idle
+  pub wait : l.state.timed.wait ≡ 0
   pub since : l.state.since ≤ i
 
 -- the distance of an em's slots is at most its period
@@ -67,8 +67,10 @@ module _ (i : ℕ) where
   tariff-quiet e b NoTariff ls l h x = record { spacing = x.spacing; tariff = refl; wait = refl; since = x.since }
   tariff-quiet e b KeepTariff ls l h x = x
   tariff-quiet e b (Rate P) ls l h x = record { spacing = x.spacing; tariff = rw x.tariff; wait = x.wait; since = x.since }
-  tariff-quiet e b (Em C P) ls l h x =
+  tariff-quiet e b (Em m) ls l h x =
       let S : ℕ = l.spacing in
+      let C = m.count in
+      let P = m.period in
       absurd (omega (arith, x.spacing, em-small S C P (not-false (sound_em S C P) (none_first _ (not (sound_em S C P)) _ h).0)))
   tariff-quiet e b Phased ls l h x =
       let S : ℕ = l.spacing in
@@ -109,10 +111,10 @@ module _ (h : List Entry) (l : Line) (x : QuietPast (past h l)) where
   described : (k : Option ℕ) (d : Reading) (u : Ruling) → ruling_of l (describe k d) ≡ u → QuietPast (noted h (describe k d) (answered (described_by u d l)))
   unfolding ticks sum
   described k d (Err r) e = λ early. ((x early).0, omega (arith, (x early).1))
-  described k unreadable (Ok tt) e = absurd (unreadable-refused l.spacing (is_endless l.state.tariff) (is_running l.state.burst) l.serial k e)
-  described k senseless (Ok tt) e = absurd (senseless-refused l.spacing (is_endless l.state.tariff) (is_running l.state.burst) l.serial k e)
+  described k unreadable (Ok tt) e = absurd (unreadable-refused l.spacing (is_endless l.state.timed.tariff) (is_running l.state.burst) l.serial k e)
+  described k senseless (Ok tt) e = absurd (senseless-refused l.spacing (is_endless l.state.timed.tariff) (is_running l.state.burst) l.serial k e)
   described k (descriptor t ls p) (Ok tt) e = λ early.
-      let endless : Bool = is_endless l.state.tariff in
+      let endless : Bool = is_endless l.state.timed.tariff in
       let running : Bool = is_running l.state.burst in
       let own = allowed-reading l.spacing endless running l.serial k (descriptor t ls p) e in
       let free = (none_after (tariff_causes l.spacing endless running t ls) (burst_causes l.spacing endless running p) own).0 in
@@ -153,4 +155,4 @@ blank-quiet = record { spacing = refl; tariff = refl; wait = refl; since = omega
 pub blank-silent : (D G clock : ℕ) (cs : List Call) → sound_configuration D G ≡ false → ticks (history D G clock cs) < 4294967295 → fronts (history D G clock cs) ≡ 0
 unfolding history make_of ticks sum
 blank-silent D G clock cs refused early =
-    fronts-none (after_calls (past [] (make_of D G clock).line) cs) (calls-quiet (past [] (make_of D G clock).line) cs (rw refused (λ e. (blank-quiet, refl)))) early
+    fronts-none (after_calls (past [] (made_or_blank (make_of D G clock))) cs) (calls-quiet (past [] (made_or_blank (make_of D G clock))) cs (rw refused (λ e. (blank-quiet, refl)))) early

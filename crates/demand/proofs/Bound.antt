@@ -35,7 +35,7 @@ pub record Left (S : ℕ) (l : Line) (n K j r done : ℕ) : Type 0 where
   pub owing : l.state.burst ≡ Some (burst_with (suc others) distance own)
   pub wide : S ≤ distance
   pub count : suc others + done ≡ n
-  pub within : Within S l.state.since distance own (next_of l.state.tariff l.state.wait) first
+  pub within : Within S l.state.since distance own (next_of l.state.timed.tariff l.state.timed.wait) first
   pub low : first + others * (distance + 2 * S) + j ≤ K + r * (2 * S)
 
 one_fewer : (m G : ℕ) → 1 ≤ m → m * G ≡ (m - 1) * G + G
@@ -43,7 +43,7 @@ one_fewer zero G l = absurd (omega arith)
 one_fewer (suc m) G l = let e : suc m - 1 ≡ m = omega arith in rw e (omega arith)
 
 module _ (S : ℕ) (z : 1 ≤ S) (n K j r done : ℕ) (l l' : Line) (e : Entry) where
-  kept : (x : Left S l n K j r done) → Effect S l.state.since (next_of l.state.tariff l.state.wait) x.others x.distance x.own e l' → is_none (granted e).burst ≡ 0 → is_burst_front (front_of e) + done < n →
+  kept : (x : Left S l n K j r done) → Effect S l.state.since (next_of l.state.timed.tariff l.state.timed.wait) x.others x.distance x.own e l' → is_none (granted e).burst ≡ 0 → is_burst_front (front_of e) + done < n →
       Left S l' n K (cond (granted e).tick (j + 1) j) (is_fresh (granted e).tariff + r) (is_burst_front (front_of e) + done)
   kept x (cancels c) a b = absurd (omega arith)
   kept x (stays t f w v u) a b =
@@ -57,7 +57,7 @@ module _ (S : ℕ) (z : 1 ≤ S) (n K j r done : ℕ) (l l' : Line) (e : Entry) 
         wide = x.wide;
         owing = u;
         count = rw f (omega (arith, x.count));
-        within = rw (w, v) (stopped S z l.state.since x.distance x.own (next_of l.state.tariff l.state.wait) x.first x.within);
+        within = rw (w, v) (stopped S z l.state.since x.distance x.own (next_of l.state.timed.tariff l.state.timed.wait) x.first x.within);
         low = rw t (omega (arith, x.low));
       }
   kept x (begins t f fresh w u) a b =
@@ -69,11 +69,11 @@ module _ (S : ℕ) (z : 1 ≤ S) (n K j r done : ℕ) (l l' : Line) (e : Entry) 
         wide = x.wide;
         owing = u;
         count = rw f (omega (arith, x.count));
-        within = rw w (replaced S z l.state.since x.distance x.own (next_of l.state.tariff l.state.wait) x.first (next_of l'.state.tariff l'.state.wait) x.within);
+        within = rw w (replaced S z l.state.since x.distance x.own (next_of l.state.timed.tariff l.state.timed.wait) x.first (next_of l'.state.timed.tariff l'.state.timed.wait) x.within);
         low = rw (t, fresh) (omega (arith, x.low));
       }
   kept x (waiting t f o y w v u) a b =
-      let some = positive S z l.state.since x.distance x.own (next_of l.state.tariff l.state.wait) x.first x.within in
+      let some = positive S z l.state.since x.distance x.own (next_of l.state.timed.tariff l.state.timed.wait) x.first x.within in
       record {
         others = x.others;
         distance = x.distance;
@@ -82,11 +82,11 @@ module _ (S : ℕ) (z : 1 ≤ S) (n K j r done : ℕ) (l l' : Line) (e : Entry) 
         wide = x.wide;
         owing = u;
         count = rw f (omega (arith, x.count));
-        within = rw (w, v) (waits S z l.state.since x.distance x.own (next_of l.state.tariff l.state.wait) x.first o y x.within);
+        within = rw (w, v) (waits S z l.state.since x.distance x.own (next_of l.state.timed.tariff l.state.timed.wait) x.first o y x.within);
         low = rw t (omega (arith, x.low));
       }
   kept x (empty-due t f d far w u) a b =
-      let some = positive S z l.state.since x.distance x.own (next_of l.state.tariff l.state.wait) x.first x.within in
+      let some = positive S z l.state.since x.distance x.own (next_of l.state.timed.tariff l.state.timed.wait) x.first x.within in
       record {
         others = x.others;
         distance = x.distance;
@@ -95,11 +95,11 @@ module _ (S : ℕ) (z : 1 ≤ S) (n K j r done : ℕ) (l l' : Line) (e : Entry) 
         wide = x.wide;
         owing = u;
         count = rw f (omega (arith, x.count));
-        within = rw w (empty-slot S z l.state.since x.distance x.own (next_of l.state.tariff l.state.wait) x.first (next_of l'.state.tariff l'.state.wait) far d x.within);
+        within = rw w (empty-slot S z l.state.since x.distance x.own (next_of l.state.timed.tariff l.state.timed.wait) x.first (next_of l'.state.timed.tariff l'.state.timed.wait) far d x.within);
         low = rw t (omega (arith, x.low));
       }
   kept x (pulse-due t f d far w u) a b =
-      let some = positive S z l.state.since x.distance x.own (next_of l.state.tariff l.state.wait) x.first x.within in
+      let some = positive S z l.state.since x.distance x.own (next_of l.state.timed.tariff l.state.timed.wait) x.first x.within in
       record {
         others = x.others;
         distance = x.distance;
@@ -108,11 +108,11 @@ module _ (S : ℕ) (z : 1 ≤ S) (n K j r done : ℕ) (l l' : Line) (e : Entry) 
         wide = x.wide;
         owing = u;
         count = rw f (omega (arith, x.count));
-        within = rw w (pulse-slot S z l.state.since x.distance x.own (next_of l.state.tariff l.state.wait) x.first (next_of l'.state.tariff l'.state.wait) far d x.within);
+        within = rw w (pulse-slot S z l.state.since x.distance x.own (next_of l.state.timed.tariff l.state.timed.wait) x.first (next_of l'.state.timed.tariff l'.state.timed.wait) far d x.within);
         low = rw t (omega (arith, x.low));
       }
   kept x (burst-due t f w u) a b =
-      let some = positive S z l.state.since x.distance x.own (next_of l.state.tariff l.state.wait) x.first x.within in
+      let some = positive S z l.state.since x.distance x.own (next_of l.state.timed.tariff l.state.timed.wait) x.first x.within in
       let more = burst-more f b x.count in
       record {
         others = x.others - 1;
@@ -177,7 +177,7 @@ module _ (D S clock : ℕ) (cfg : Config D S) (small : clock < 2 ^ 32) where
   not_late zero P rest before e r is kept_on few = absurd (omega arith)
   not_late {l} (suc n) P rest before e r is kept_on few =
       let x = left n P rest before e r is kept_on few in
-      omega (arith, x.low, positive S some l.state.since x.distance x.own (next_of l.state.tariff l.state.wait) x.first x.within, sizes n (max P S))
+      omega (arith, x.low, positive S some l.state.since x.distance x.own (next_of l.state.timed.tariff l.state.timed.wait) x.first x.within, sizes n (max P S))
 
 -- ---- the last pulse in the list
 -- until it begins, all entries count

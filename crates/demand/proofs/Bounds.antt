@@ -72,7 +72,7 @@ unfolding tariff_changed
 tariff-bounded NoTariff ps l x = record { spacing = x.spacing; serial = x.serial; state = record { clock = x.state.clock; since = x.state.since; burst = x.state.burst; counters = x.state.counters } }
 tariff-bounded KeepTariff ps l x = x
 tariff-bounded (Rate P) ps l x = record { spacing = x.spacing; serial = x.serial; state = record { clock = x.state.clock; since = x.state.since; burst = x.state.burst; counters = x.state.counters } }
-tariff-bounded (Em C P) ps l x =
+tariff-bounded (Em m) ps l x =
     record { spacing = x.spacing; serial = x.serial; state = record { clock = x.state.clock; since = x.state.since; burst = x.state.burst; counters = record { cpc = omega arith; pcslr = omega arith } } }
 tariff-bounded Phased ps l x = record { spacing = x.spacing; serial = x.serial; state = record { clock = x.state.clock; since = x.state.since; burst = x.state.burst; counters = x.state.counters } }
 
@@ -118,7 +118,7 @@ described k d l (Err r) e x = x
 described k unreadable l (Ok tt) e x = accepted-bounded l x
 described k senseless l (Ok tt) e x = accepted-bounded l x
 described k (descriptor t ls p) l (Ok tt) e x =
-    let endless : Bool = is_endless l.state.tariff in
+    let endless : Bool = is_endless l.state.timed.tariff in
     let running : Bool = is_running l.state.burst in
     let own = allowed-reading l.spacing endless running l.serial k (descriptor t ls p) e in
     let free = none_after (tariff_causes l.spacing endless running t ls) (burst_causes l.spacing endless running p) own in
@@ -175,10 +175,10 @@ tick-bounded : (l : Line) → Bounded l → Bounded (tick_of l).line
 unfolding tick_of moved_by
 tick-bounded l x =
     let s = l.state in
-    let t : Stepped = step_of l.pulse l.schedule s.tariff s.wait in
+    let t : Stepped = step_of l.pulse l.schedule s.timed in
     let b : Aged = aged_of l.pulse s.burst in
     let since : ℕ = held_more l.spacing s.since in
-    let f : Option Front = front_at t.slot (any_due b.burst && (leb l.spacing since && room_of l.spacing t.tariff t.wait)) in
+    let f : Option Front = front_at t.slot (any_due b.burst && (leb l.spacing since && room_of l.spacing t.timed)) in
     record {
       spacing = x.spacing;
       serial = x.serial;

@@ -32,7 +32,7 @@ abbrev pub TariffTaken : ℕ → TariffPart → List Phase → Running → Type 
 TariffTaken S NoTariff ps r = Unit {0}
 TariffTaken S KeepTariff ps r = Unit {0}
 TariffTaken S (Rate P) ps r = (runs_endless r ≡ true) × (sound_em S 0 P ≡ true)
-TariffTaken S (Em C P) ps r = sound_em S C P ≡ true
+TariffTaken S (Em m) ps r = sound_em S m.count m.period ≡ true
 TariffTaken S Phased ps r = (1 ≤ length ps) × (length ps ≤ 8) × (sound_phases S ps ≡ true)
 
 abbrev pub BurstTaken : Bool → BurstPart → Type 0
@@ -51,8 +51,10 @@ module _ (D S clock : ℕ) (cfg : Config D S) where
   tariff-at KeepTariff ps h (line_at e before a g u x) = line_at e before a g u x
   tariff-at {i} {r = r} (Rate P) ps h (line_at {w = w} {t = t} {ps = qs} {n = n} e before a g u x) =
       line_at {w = w} {t = rate_of P t} {ps = qs} {n = n} e before (agree-rate D qs n S r t w i g a (sym (rate-runs D qs n r t w i a) ∙ h.0) P) (good-rate S qs n P t w h.1 g) u (rw (next-rate P t w) x)
-  tariff-at {i} {last} (Em C P) ps h (line_at {v = v} {ps = qs} {n = n} e before a g u x) =
+  tariff-at {i} {last} (Em m) ps h (line_at {v = v} {ps = qs} {n = n} e before a g u x) =
       let w : ℕ = max 1 (S - v) in
+      let C = m.count in
+      let P = m.period in
       line_at {w = w} {t = em_of C P} {ps = qs} {n = n} e before (rw (origin_is S i last before, ← e) (agree-em D qs n C P i w (omega arith))) (good-em S qs n C P w h (wait-fits v)) u (rw (next-em C P w) (λ z. omega arith))
   tariff-at {i} {last} Phased ps h (line_at {v = v} e before a g u x) =
       let w : ℕ = max 1 (S - v) in

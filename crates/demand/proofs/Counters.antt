@@ -26,5 +26,5 @@ pub zeroed_held : (t : TariffPart) (n : ℕ) → zeroed_by t (min 4294967295 n) 
 zeroed_held NoTariff n = refl
 zeroed_held KeepTariff n = refl
 zeroed_held (Rate P) n = refl
-zeroed_held (Em C P) n = omega arith
+zeroed_held (Em m) n = omega arith
 zeroed_held Phased n = refl

@@ -5,7 +5,7 @@ use mathlib.Core.Bool.{true}
 use mathlib.Core.List.{List}
 use Prim.Native.Nat.{ℕ, ◌+◌, ◌%◌, ◌^◌, max, ◌≤◌, ◌<◌}
 use Rattle.std.specs.Prelude.{Option}
-use Rattle.tariff.specs.Tariffs.{schedule_of}
+use Rattle.tariff.specs.Tariffs.{schedule_of, timed}
 use Rattle.tariff.specs.declared.Phase.{Phase}
 use Rattle.tariff.specs.declared.Tariff.{Tariff}
 use Rattle.slots.specs.Slots.{Running}
@@ -42,7 +42,7 @@ module _ (D S clock : ℕ) where
   pub data At (i : ℕ) (last : Last) (b : Started) (r : Running) (cpc pcslr : ℕ) (rp : Option ℕ) : Line → Type 0 where
     line_at : {v w : ℕ} {t : Tariff} {ps : List Phase} {n k : ℕ} {u : Option Burst} → v ≡ held_since S last i → Before last i → Agree D ps n r t w i → Good S ps n t w → BurstAt D S i b u → Apart S v (next_of t w) →
         At i last b r cpc pcslr rp
-        (record { pulse = D; spacing = S; serial = k; state = record { wait = w; clock = (clock + i) % 2 ^ 32; since = v; tariff = t; burst = u; counters = record { cpc = cpc; pcslr = pcslr; rp = rp } }; schedule = schedule_of ps n })
+        (record { pulse = D; spacing = S; serial = k; state = record { timed = timed t w; clock = (clock + i) % 2 ^ 32; since = v; burst = u; counters = record { cpc = cpc; pcslr = pcslr; rp = rp } }; schedule = schedule_of ps n })
 
   -- the total counter in another form
   pub with-total : {i : ℕ} {last : Last} {b : Started} {r : Running} {cpc same pcslr : ℕ} {rp : Option ℕ} {l : Line} → cpc ≡ same → At i last b r cpc pcslr rp l → At i last b r same pcslr rp l

@@ -52,7 +52,7 @@ config D G h =
     let g = (and-eq-true_iff (leb 1 G) (leb G 500)).0 both.1 in
     record { pulse = leb-true 1 D d.0; gap = omega (arith, leb-true 1 G g.0); most = omega (arith, leb-true D 500 d.1, leb-true G 500 g.1) }
 
-made : (D G clock : ℕ) → sound_configuration D G ≡ true → (make_of D G clock).line ≡ fresh_line D (D + G) clock
+made : (D G clock : ℕ) → sound_configuration D G ≡ true → make_of D G clock ≡ Ok (fresh_line D (D + G) clock)
 unfolding make_of
 made D G clock h = rw h
 

@@ -47,7 +47,7 @@ pub describe-step : (l : Line) (k : Option ℕ) (d : Reading) → step l (descri
 unfolding step commit_of
 describe-step l None d = ap answered (read_is l d)
 describe-step l (Some ticket) d =
-    let own = reading_causes l.spacing (is_endless l.state.tariff) (is_running l.state.burst) d in
+    let own = reading_causes l.spacing (is_endless l.state.timed.tariff) (is_running l.state.burst) d in
     let first = ticket_causes ticket l.serial in
     ap answered
     (ap (if_allowed (ruling first) l) (read_is l d)

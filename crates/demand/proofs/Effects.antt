@@ -55,12 +55,12 @@ NoTick e = (granted e).tick ≡ false
 -- from w, v and a burst that owes m + 1 pulses at distance g, with k ticks since its last front
 pub data Effect (S w v m g k : ℕ) (e : Entry) (l : Line) : Type 0 where
   cancels : is_none (granted e).burst ≡ 1 → Effect S w v m g k e l
-  stays : NoTick e → front_of e ≡ None → l.state.since ≡ w → next_of l.state.tariff l.state.wait ≡ v → l.state.burst ≡ Some (burst_with (suc m) g k) → Effect S w v m g k e l
-  stops : NoTick e → front_of e ≡ None → l.state.since ≡ w → next_of l.state.tariff l.state.wait ≡ 0 → l.state.burst ≡ Some (burst_with (suc m) g k) → Effect S w v m g k e l
+  stays : NoTick e → front_of e ≡ None → l.state.since ≡ w → next_of l.state.timed.tariff l.state.timed.wait ≡ v → l.state.burst ≡ Some (burst_with (suc m) g k) → Effect S w v m g k e l
+  stops : NoTick e → front_of e ≡ None → l.state.since ≡ w → next_of l.state.timed.tariff l.state.timed.wait ≡ 0 → l.state.burst ≡ Some (burst_with (suc m) g k) → Effect S w v m g k e l
   begins : NoTick e → front_of e ≡ None → is_fresh (granted e).tariff ≡ 1 → l.state.since ≡ w → l.state.burst ≡ Some (burst_with (suc m) g k) → Effect S w v m g k e l
-  waiting : IsTick e → front_of e ≡ None → (v ≡ 1 → ⊥) → Blocked S w g k v → l.state.since ≡ min S (w + 1) → next_of l.state.tariff l.state.wait ≡ v - 1 → l.state.burst ≡ Some (burst_with (suc m) g (min g (k + 1))) → Effect S w v m g k e l
-  empty-due : IsTick e → front_of e ≡ None → v ≡ 1 → ((next_of l.state.tariff l.state.wait ≡ 0 → ⊥) → 2 * S ≤ next_of l.state.tariff l.state.wait) → l.state.since ≡ min S (w + 1) → l.state.burst ≡ Some (burst_with (suc m) g (min g (k + 1))) → Effect S w v m g k e l
-  pulse-due : IsTick e → front_of e ≡ Some TariffFront → v ≡ 1 → ((next_of l.state.tariff l.state.wait ≡ 0 → ⊥) → 2 * S ≤ next_of l.state.tariff l.state.wait) → l.state.since ≡ 0 → l.state.burst ≡ Some (burst_with (suc m) g (min g (k + 1))) → Effect S w v m g k e l
+  waiting : IsTick e → front_of e ≡ None → (v ≡ 1 → ⊥) → Blocked S w g k v → l.state.since ≡ min S (w + 1) → next_of l.state.timed.tariff l.state.timed.wait ≡ v - 1 → l.state.burst ≡ Some (burst_with (suc m) g (min g (k + 1))) → Effect S w v m g k e l
+  empty-due : IsTick e → front_of e ≡ None → v ≡ 1 → ((next_of l.state.timed.tariff l.state.timed.wait ≡ 0 → ⊥) → 2 * S ≤ next_of l.state.timed.tariff l.state.timed.wait) → l.state.since ≡ min S (w + 1) → l.state.burst ≡ Some (burst_with (suc m) g (min g (k + 1))) → Effect S w v m g k e l
+  pulse-due : IsTick e → front_of e ≡ Some TariffFront → v ≡ 1 → ((next_of l.state.timed.tariff l.state.timed.wait ≡ 0 → ⊥) → 2 * S ≤ next_of l.state.timed.tariff l.state.timed.wait) → l.state.since ≡ 0 → l.state.burst ≡ Some (burst_with (suc m) g (min g (k + 1))) → Effect S w v m g k e l
   burst-due : IsTick e → front_of e ≡ Some BurstFront → l.state.since ≡ 0 → l.state.burst ≡ Some (burst_with m g 0) → Effect S w v m g k e l
 
 -- ---- a tick
@@ -83,7 +83,7 @@ aged-is : (D m g k : ℕ) → aged_of D (Some (burst_with (suc m) g k)) ≡ reco
 unfolding aged_of completes_of
 aged-is D m g k = rw (ne_eqb (suc m) 0 (λ z. omega arith))
 
-module _ (l : Line) (cfg : Config l.pulse l.spacing) (good : Good l.spacing l.schedule.phases l.schedule.count l.state.tariff l.state.wait) (m g k : ℕ) (owing : l.state.burst ≡ Some (burst_with (suc m) g k)) (wide : l.spacing ≤ g) where
+module _ (l : Line) (cfg : Config l.pulse l.spacing) (good : Good l.spacing l.schedule.phases l.schedule.count l.state.timed.tariff l.state.timed.wait) (m g k : ℕ) (owing : l.state.burst ≡ Some (burst_with (suc m) g k)) (wide : l.spacing ≤ g) where
   abbrev pub S : ℕ
   S = l.spacing
 
@@ -95,13 +95,13 @@ module _ (l : Line) (cfg : Config l.pulse l.spacing) (good : Good l.spacing l.sc
 
   module _ (c : Call) (ticking : (asks c).tick ≡ true) where
     abbrev t' : Stepped
-    t' = step_of l.pulse l.schedule l.state.tariff l.state.wait
+    t' = step_of l.pulse l.schedule l.state.timed
 
     abbrev u' : Aged
     u' = record { burst = Some (burst_with (suc m) g (min g (k + 1))); complete = false }
 
     abbrev may-start : Bool
-    may-start = any_due u'.burst && (leb S (min S (l.state.since + 1)) && room_of S t'.tariff t'.wait)
+    may-start = any_due u'.burst && (leb S (min S (l.state.since + 1)) && room_of S t'.timed)
 
     -- a tick whose burst is x one tick on, with this front or none
     abbrev tick_with : Aged → Option Front → Ticked
@@ -111,10 +111,9 @@ module _ (l : Line) (cfg : Config l.pulse l.spacing) (good : Good l.spacing l.sc
           line =
               with_state l
               (record {
-                wait = t'.wait;
+                timed = t'.timed;
                 clock = (l.state.clock + 1) % 2 ^ 32;
                 since = since_front f (held_more S l.state.since);
-                tariff = t'.tariff;
                 burst = burst_after f x.burst;
                 counters = n.counters;
               });
@@ -122,17 +121,17 @@ module _ (l : Line) (cfg : Config l.pulse l.spacing) (good : Good l.spacing l.sc
         }
 
     abbrev front_with : Aged → Option Front
-    front_with x = front_at t'.slot (any_due x.burst && (leb S (held_more S l.state.since) && room_of S t'.tariff t'.wait))
+    front_with x = front_at t'.slot (any_due x.burst && (leb S (held_more S l.state.since) && room_of S t'.timed))
 
     abbrev TickEffect : Ticked → Type 0
-    TickEffect x = Effect S l.state.since (next_of l.state.tariff l.state.wait) m g k (entry_for c (ticked x.tick) x.line) x.line
+    TickEffect x = Effect S l.state.since (next_of l.state.timed.tariff l.state.timed.wait) m g k (entry_for c (ticked x.tick) x.line) x.line
 
-    blocked : may-start ≡ false → next_of t'.tariff t'.wait ≡ next_of l.state.tariff l.state.wait - 1 → Blocked S l.state.since g k (next_of l.state.tariff l.state.wait)
+    blocked : may-start ≡ false → next_of t'.timed.tariff t'.timed.wait ≡ next_of l.state.timed.tariff l.state.timed.wait - 1 → Blocked S l.state.since g k (next_of l.state.timed.tariff l.state.timed.wait)
     blocked h e =
-        blocked-by S l.state.since g k (next_of l.state.tariff l.state.wait) (next_of t'.tariff t'.wait) _ _ _ e refl refl
-        (sym (room_next S l.schedule.phases l.schedule.count t'.tariff t'.wait (good-step S l.pulse l.schedule.phases l.schedule.count some fits l.state.tariff l.state.wait good))) (rw (lt-ltb 0 (suc m) (omega arith)) at h)
+        blocked-by S l.state.since g k (next_of l.state.timed.tariff l.state.timed.wait) (next_of t'.timed.tariff t'.timed.wait) _ _ _ e refl refl
+        (sym (room_next S l.schedule.phases l.schedule.count t'.timed.tariff t'.timed.wait (good-step S l.pulse l.schedule.phases l.schedule.count some fits l.state.timed.tariff l.state.timed.wait good))) (rw (lt-ltb 0 (suc m) (omega arith)) at h)
 
-    by : (s : Option Slot) (may : Bool) → may-start ≡ may → Next S (next_of l.state.tariff l.state.wait) (next_of t'.tariff t'.wait) s → TickEffect (tick_with u' (front_at s may))
+    by : (s : Option Slot) (may : Bool) → may-start ≡ may → Next S (next_of l.state.timed.tariff l.state.timed.wait) (next_of t'.timed.tariff t'.timed.wait) s → TickEffect (tick_with u' (front_at s may))
     unfolding since_front burst_after
     by None false h (waits p q) = waiting ticking refl p (blocked h q) refl q refl
     by None true h (waits p q) = burst-due ticking refl refl (ap (λ (x : ℕ). Some (burst_with x g 0)) (omega arith))
@@ -140,7 +139,7 @@ module _ (l : Line) (cfg : Config l.pulse l.spacing) (good : Good l.spacing l.sc
     by (Some Pulse) may h (pulse p q) = pulse-due ticking refl p q refl refl
 
     with-aged : (x : Aged) → x ≡ u' → TickEffect (tick_with x (front_with x))
-    with-aged x e = rw e (by t'.slot may-start refl (next-step S l.pulse l.schedule.phases l.schedule.count some fits l.state.tariff l.state.wait good))
+    with-aged x e = rw e (by t'.slot may-start refl (next-step S l.pulse l.schedule.phases l.schedule.count some fits l.state.timed.tariff l.state.timed.wait good))
 
     tick-effect : TickEffect (tick_of l)
     unfolding tick_of moved_by
@@ -148,22 +147,22 @@ module _ (l : Line) (cfg : Config l.pulse l.spacing) (good : Good l.spacing l.sc
 
   -- ---- the other calls
   abbrev pub EffectOf : Call → Outcome → Type 0
-  EffectOf c (outcome a l') = Effect S l.state.since (next_of l.state.tariff l.state.wait) m g k (entry_for c a l') l'
+  EffectOf c (outcome a l') = Effect S l.state.since (next_of l.state.timed.tariff l.state.timed.wait) m g k (entry_for c a l') l'
 
   changed : (k' : Option ℕ) (d : Reading) (u : Ruling) → ruling_of l (describe k' d) ≡ u → EffectOf (describe k' d) (answered (described_by u d l))
   unfolding tariff_changed burst_changed
   changed k' d (Err r) e = stays refl refl refl refl owing
-  changed k' unreadable (Ok tt) e = absurd (unreadable-refused S (is_endless l.state.tariff) (is_running l.state.burst) l.serial k' e)
-  changed k' senseless (Ok tt) e = absurd (senseless-refused S (is_endless l.state.tariff) (is_running l.state.burst) l.serial k' e)
+  changed k' unreadable (Ok tt) e = absurd (unreadable-refused S (is_endless l.state.timed.tariff) (is_running l.state.burst) l.serial k' e)
+  changed k' senseless (Ok tt) e = absurd (senseless-refused S (is_endless l.state.timed.tariff) (is_running l.state.burst) l.serial k' e)
   changed k' (descriptor t ls NoBurst) (Ok tt) e = cancels refl
   changed k' (descriptor t ls (Start n P)) (Ok tt) e =
-      let endless : Bool = is_endless l.state.tariff in
+      let endless : Bool = is_endless l.state.timed.tariff in
       let runs : Bool = is_running l.state.burst in
       absurd (let running : runs ≡ true = ap is_running owing in let idle = starts_idle S endless runs t ls n P (allowed-reading S endless runs l.serial k' (descriptor t ls (Start n P)) e) in let o : ◌≡◌ {A = ℕ} 0 1 = cc in omega arith)
   changed k' (descriptor NoTariff ls KeepBurst) (Ok tt) e = stops refl refl refl refl owing
   changed k' (descriptor KeepTariff ls KeepBurst) (Ok tt) e = stays refl refl refl refl owing
-  changed k' (descriptor (Rate P) ls KeepBurst) (Ok tt) e = stays refl refl refl (next-rate P l.state.tariff l.state.wait) owing
-  changed k' (descriptor (Em C P) ls KeepBurst) (Ok tt) e = begins refl refl refl refl owing
+  changed k' (descriptor (Rate P) ls KeepBurst) (Ok tt) e = stays refl refl refl (next-rate P l.state.timed.tariff l.state.timed.wait) owing
+  changed k' (descriptor (Em m) ls KeepBurst) (Ok tt) e = begins refl refl refl refl owing
   changed k' (descriptor Phased ls KeepBurst) (Ok tt) e = begins refl refl refl refl owing
 
   ruled : (n : ℕ) (u : Ruling) → EffectOf (period n) (answered (answered_by u l (with_period l (Some n)) 0))

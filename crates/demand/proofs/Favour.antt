@@ -7,7 +7,7 @@ use Prim.Native.Nat.{ℕ}
 use native.Mathlib.Omega.{arith}
 use borrow.Table.Steps.{cases}
 use lib.Dec.{ltb}
-use Rattle.tariff.specs.Tariffs.{is_endless}
+use Rattle.tariff.specs.Tariffs.{is_endless, timed}
 use Rattle.tariff.specs.declared.Schedule.{Schedule}
 use Rattle.tariff.specs.declared.Tariff.{Tariff}
 use Rattle.tariff.specs.declared.Tariff.TheVariants.{Idle, Endless, Counted, Phased as PhasedRuns, Ending}
@@ -36,7 +36,7 @@ unfolding ruling
 more-endless S NoTariff ls b r x = x
 more-endless S KeepTariff ls b r x = x
 more-endless S (Rate P) ls b r x = absurd (let o : ◌≡◌ {A = ℕ} 0 1 = cc in omega arith)
-more-endless S (Em C P) ls b r x = x
+more-endless S (Em m) ls b r x = x
 more-endless S Phased ls b r x = x
 
 runs_last : (a : Bool) (cs : List Cause) → ruling (cs ++ (cause Burst a ∷ cause BurstRuns true ∷ [])) ≡ Ok tt → ⊥
@@ -67,15 +67,15 @@ allows-more S t ls b false false false true f g x = absurd (true≢false (sym (g
 allows-more S t ls b false false false false f g x = x
 
 -- ---- a tick: an em with C = 0 goes on, and no burst begins to run
-due-endless : (D : ℕ) (ps : Schedule) (t : Tariff) → is_endless t ≡ true → is_endless (due_of D ps t).tariff ≡ true
+due-endless : (D : ℕ) (ps : Schedule) (t : Tariff) → is_endless t ≡ true → is_endless (due_of D ps t).timed.tariff ≡ true
 unfolding due_of
 due-endless D ps Idle e = absurd (true≢false (sym e))
 due-endless D ps (Endless P) e = refl
-due-endless D ps (Counted C P k) e = absurd (true≢false (sym e))
-due-endless D ps (PhasedRuns i j l k) e = absurd (true≢false (sym e))
+due-endless D ps (Counted m k) e = absurd (true≢false (sym e))
+due-endless D ps (PhasedRuns q) e = absurd (true≢false (sym e))
 due-endless D ps Ending e = absurd (true≢false (sym e))
 
-endless-on : (D : ℕ) (ps : Schedule) (t : Tariff) (w : ℕ) → is_endless t ≡ true → is_endless (step_of D ps t w).tariff ≡ true
+endless-on : (D : ℕ) (ps : Schedule) (t : Tariff) (w : ℕ) → is_endless t ≡ true → is_endless (step_of D ps (timed t w)).timed.tariff ≡ true
 unfolding step_of
 endless-on D ps t w e = cases (ltb 1 w) (λ h. rw h e) (λ h. rw h (due-endless D ps t e))
 
@@ -101,7 +101,7 @@ tick_favours unreadable l x = x
 tick_favours senseless l x = x
 tick_favours (descriptor t ls b) l x =
     let s = l.state in
-    allows-more l.spacing t ls b _ _ _ _ (endless-on l.pulse l.schedule s.tariff s.wait) (λ e. aged-on l.pulse s.burst (burst-on _ (aged_of l.pulse s.burst).burst e)) x
+    allows-more l.spacing t ls b _ _ _ _ (endless-on l.pulse l.schedule s.timed.tariff s.timed.wait) (λ e. aged-on l.pulse s.burst (burst-on _ (aged_of l.pulse s.burst).burst e)) x
 
 -- a call that is not accepted
 abbrev Keeps : Reading → Line → Outcome → Type 0

@@ -30,7 +30,7 @@ unfolding tariff_changed
 tariff-serial NoTariff ps l = refl
 tariff-serial KeepTariff ps l = refl
 tariff-serial (Rate P) ps l = refl
-tariff-serial (Em C P) ps l = refl
+tariff-serial (Em m) ps l = refl
 tariff-serial Phased ps l = refl
 
 burst-serial : (b : BurstPart) (l : Line) → (burst_changed b l).serial ≡ l.serial

@@ -8,7 +8,7 @@ use borrow.Author.Tests.{leb-true, le-leb}
 use Rattle.answers.specs.Fronts.{if_front, is_front}
 use Rattle.answers.specs.declared.Front.{Front}
 use Rattle.answers.specs.declared.Front.TheVariants.{Tariff as TariffFront, Burst as BurstFront}
-use Rattle.tariff.specs.Tariffs.{schedule_of}
+use Rattle.tariff.specs.Tariffs.{schedule_of, timed}
 use Rattle.steps.specs.Steps.{step_of}
 use Rattle.tariff.specs.declared.Slot.{Slot}
 use Rattle.tariff.specs.declared.Slot.TheVariants.{Empty, Pulse}
@@ -40,7 +40,7 @@ module _ (D S clock : ℕ) (cfg : Config D S) where
   slot-passed : (h : List Entry) {l : Line} → Coupled D S clock h l → slot_at (running D S h) (ticks h + 1) ≡ Some Pulse → passed S (last_front h) (ticks h + 1) ≡ true
   slot-passed h (line_at {w = w} {t = t} {ps = ps} {n = n} e before a g x y) s =
       let fits : Waits D = record { some = omega arith; most = omega arith } in
-      let due = pulse-next (step_of D (schedule_of ps n) t w).slot (sym (agree-now S D ps n (omega arith) fits (running D S h) t w (ticks h) g a) ∙ s) (next-step S D ps n (omega arith) fits t w g) in
+      let due = pulse-next (step_of D (schedule_of ps n) (timed t w)).slot (sym (agree-now S D ps n (omega arith) fits (running D S h) t w (ticks h) g a) ∙ s) (next-step S D ps n (omega arith) fits t w g) in
       let far = y (λ z. omega arith) in
       let more = held_more_lem S (ticks h) (last_front h) before in
       sym (held-passed S (ticks h + 1) (last_front h) (before_more (last_front h) (ticks h) before)) ∙ le-leb S (held_since S (last_front h) (ticks h + 1)) (omega arith)

@@ -28,7 +28,8 @@ module _ (S : ℕ) (e b : Bool) where
   tariff-taken (Rate P) ls r x h =
       let first = none_first _ (not e) _ h in
       (x ∙ not-false e first.0, not-false (sound_em S 0 P) (none_first _ (not (sound_em S 0 P)) _ first.1).0)
-  tariff-taken (Em C P) ls r x h = not-false (sound_em S C P) (none_first _ (not (sound_em S C P)) _ h).0
+  tariff-taken (Em m) ls r x h =
+      not-false (sound_em S m.count m.period) (none_first _ (not (sound_em S m.count m.period)) _ h).0
   tariff-taken Phased ls r x h =
       let first = none_first _ (not (sound_lists ls)) _ h in
       let few = lists_length ls (not-false (sound_lists ls) first.0) in

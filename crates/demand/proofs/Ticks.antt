@@ -10,7 +10,7 @@ use lib.Dec.{leb, eqb}
 use Rattle.answers.specs.Fronts.{if_front, if_burst}
 use Rattle.answers.specs.declared.Front.{Front}
 use Rattle.answers.specs.declared.Tick.{Tick}
-use Rattle.tariff.specs.Tariffs.{room_of, schedule_of}
+use Rattle.tariff.specs.Tariffs.{room_of, schedule_of, timed}
 use Rattle.steps.specs.Steps.{step_of}
 use Rattle.tariff.specs.declared.Phase.{Phase}
 use Rattle.tariff.specs.declared.Tariff.{Tariff}
@@ -78,7 +78,7 @@ module _ (D S clock : ℕ) (cfg : Config D S) where
     fits = record { some = omega arith; most = omega arith }
 
     abbrev t' : Stepped
-    t' = step_of D (schedule_of ps n) t w
+    t' = step_of D (schedule_of ps n) (timed t w)
 
     abbrev u' : Aged
     u' = aged_of D u
@@ -93,15 +93,15 @@ module _ (D S clock : ℕ) (cfg : Config D S) where
     clock-more = omega arith
 
     abbrev may-start : Bool
-    may-start = any_due u'.burst && (leb S now && room_of S t'.tariff t'.wait)
+    may-start = any_due u'.burst && (leb S now && room_of S t'.timed)
 
-    ready-is : may-start ≡ (burst_ready S b (i + 1) && (passed S last (i + 1) && room_of S t'.tariff t'.wait))
-    ready-is = burst-ready D S cfg (i + 1) b u'.burst (burst-aged D S cfg i b u x).1 last (before_more last i before) now now-is (room_of S t'.tariff t'.wait)
+    ready-is : may-start ≡ (burst_ready S b (i + 1) && (passed S last (i + 1) && room_of S t'.timed))
+    ready-is = burst-ready D S cfg (i + 1) b u'.burst (burst-aged D S cfg i b u x).1 last (before_more last i before) now now-is (room_of S t'.timed)
 
-    room-is : may-start ≡ true → (next_of t'.tariff t'.wait ≡ 0 → ⊥) → S ≤ next_of t'.tariff t'.wait
+    room-is : may-start ≡ true → (next_of t'.timed.tariff t'.timed.wait ≡ 0 → ⊥) → S ≤ next_of t'.timed.tariff t'.timed.wait
     room-is h =
-        room_says S (next_of t'.tariff t'.wait)
-        (sym (room_next S ps n t'.tariff t'.wait (good-step S D ps n some fits t w g))
+        room_says S (next_of t'.timed.tariff t'.timed.wait)
+        (sym (room_next S ps n t'.timed.tariff t'.timed.wait (good-step S D ps n some fits t w g))
         ∙ ((and-eq-true_iff (passed S last (i + 1)) _).0 ((and-eq-true_iff (burst_ready S b (i + 1)) _).0 (sym ready-is ∙ h)).1).1)
 
     -- the tick and the state after it, with this front or none
@@ -116,10 +116,9 @@ module _ (D S clock : ℕ) (cfg : Config D S) where
           serial = k;
           state =
               record {
-                wait = t'.wait;
+                timed = t'.timed;
                 clock = ((clock + i) % 2 ^ 32 + 1) % 2 ^ 32;
                 since = since_front f now;
-                tariff = t'.tariff;
                 burst = burst_after f u'.burst;
                 counters = (count_by f (record { cpc = cpc; pcslr = pcslr; rp = rp })).counters;
               };
@@ -127,32 +126,32 @@ module _ (D S clock : ℕ) (cfg : Config D S) where
         }
 
     -- by the slot that is due and whether a burst pulse may start
-    by : (s : Option Slot) (may : Bool) → Next S (next_of t w) (next_of t'.tariff t'.wait) s → (may ≡ true → burst_ready S b (i + 1) ≡ true) →
-        (may ≡ true → (next_of t'.tariff t'.wait ≡ 0 → ⊥) → S ≤ next_of t'.tariff t'.wait) →
+    by : (s : Option Slot) (may : Bool) → Next S (next_of t w) (next_of t'.timed.tariff t'.timed.wait) s → (may ≡ true → burst_ready S b (i + 1) ≡ true) →
+        (may ≡ true → (next_of t'.timed.tariff t'.timed.wait ≡ 0 → ⊥) → S ≤ next_of t'.timed.tariff t'.timed.wait) →
         (told (front_at s may) ≡ tick_told i last b r pcslr rp (front_at s may)) × After i last b r cpc pcslr rp (told (front_at s may)) (line_after (front_at s may))
     unfolding count_by since_front burst_after
     by None false (waits p q) h z =
         rw (← agree-complete S D ps n some fits r t w i g a, ← (burst-aged D S cfg i b u x).0, clock-more) (
           refl,
-          line_at {v = now} {w = t'.wait} {t = t'.tariff} {ps = ps} {n = n} {u = u'.burst} now-is (before_more last i before) (agree-tick S D ps n some fits r t w i g a) (good-step S D ps n some fits t w g)
+          line_at {v = now} {w = t'.timed.wait} {t = t'.timed.tariff} {ps = ps} {n = n} {u = u'.burst} now-is (before_more last i before) (agree-tick S D ps n some fits r t w i g a) (good-step S D ps n some fits t w g)
               (burst-aged D S cfg i b u x).1 (λ e. let l = y (λ o. e (omega arith)) in omega arith),
         )
     by None true (waits p q) h z =
         rw (← agree-complete S D ps n some fits r t w i g a, ← (burst-aged D S cfg i b u x).0, clock-more, count-is cpc pcslr rp) (
           refl,
-          line_at {v = 0} {w = t'.wait} {t = t'.tariff} {ps = ps} {n = n} {u = option_map begun_of u'.burst} (omega arith) (omega arith) (agree-tick S D ps n some fits r t w i g a) (good-step S D ps n some fits t w g)
+          line_at {v = 0} {w = t'.timed.wait} {t = t'.timed.tariff} {ps = ps} {n = n} {u = option_map begun_of u'.burst} (omega arith) (omega arith) (agree-tick S D ps n some fits r t w i g a) (good-step S D ps n some fits t w g)
               (burst-begun D S cfg (i + 1) b u'.burst (burst-aged D S cfg i b u x).1 (h refl)) (λ e. let l = z refl e in omega arith),
         )
     by (Some Empty) may (empty p q) h z =
         rw (← agree-complete S D ps n some fits r t w i g a, ← (burst-aged D S cfg i b u x).0, clock-more) (
           refl,
-          line_at {v = now} {w = t'.wait} {t = t'.tariff} {ps = ps} {n = n} {u = u'.burst} now-is (before_more last i before) (agree-tick S D ps n some fits r t w i g a) (good-step S D ps n some fits t w g)
+          line_at {v = now} {w = t'.timed.wait} {t = t'.timed.tariff} {ps = ps} {n = n} {u = u'.burst} now-is (before_more last i before) (agree-tick S D ps n some fits r t w i g a) (good-step S D ps n some fits t w g)
               (burst-aged D S cfg i b u x).1 (λ e. let l = q e in omega arith),
         )
     by (Some Pulse) may (pulse p q) h z =
         rw (← agree-complete S D ps n some fits r t w i g a, ← (burst-aged D S cfg i b u x).0, clock-more, count-is cpc pcslr rp) (
           refl,
-          line_at {v = 0} {w = t'.wait} {t = t'.tariff} {ps = ps} {n = n} {u = u'.burst} (omega arith) (omega arith) (agree-tick S D ps n some fits r t w i g a) (good-step S D ps n some fits t w g)
+          line_at {v = 0} {w = t'.timed.wait} {t = t'.timed.tariff} {ps = ps} {n = n} {u = u'.burst} (omega arith) (omega arith) (agree-tick S D ps n some fits r t w i g a) (good-step S D ps n some fits t w g)
               (burst-aged D S cfg i b u x).1 (λ e. let l = q e in omega arith),
         )
 
@@ -161,7 +160,7 @@ module _ (D S clock : ℕ) (cfg : Config D S) where
     both =
         rw (
           agree-now S D ps n some fits r t w i g a,
-          agree-room S D ps n r t'.tariff t'.wait (i + 1) (good-step S D ps n some fits t w g) (runs_on S D ps n some fits r t w i g a),
+          agree-room S D ps n r t'.timed.tariff t'.timed.wait (i + 1) (good-step S D ps n some fits t w g) (runs_on S D ps n some fits r t w i g a),
           ← ready-is,
         )
         (by t'.slot may-start (next-step S D ps n some fits t w g) (λ h. ((and-eq-true_iff (burst_ready S b (i + 1)) _).0 (sym ready-is ∙ h)).0) room-is)

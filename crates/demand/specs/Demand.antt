@@ -11,7 +11,7 @@ use Rattle.demand.specs.Machine.{history}
 
 -- em and phased are fresh tariffs
 abbrev pub is_fresh : TariffPart → ℕ
-is_fresh t = elim t [ NoTariff ↦ 0 | KeepTariff ↦ 0 | Rate P ↦ 0 | Em C P ↦ 1 | Phased ↦ 1 ]
+is_fresh t = elim t [ NoTariff ↦ 0 | KeepTariff ↦ 0 | Rate P ↦ 0 | Em m ↦ 1 | Phased ↦ 1 ]
 
 -- of the entries after the start of a burst of n pulses, rest, those before its last pulse, or all if it has not begun
 unfoldable pub before_last : (Entry → ℕ) → ℕ → List Entry → ℕ

@@ -1,6 +1,7 @@
 -- The starred examples of the paper, together in one list, and what each says of the definitions.
 use Rattle.std.specs.Prelude.{◌≡◌, cond, List, [], ◌∷◌, ◌++◌, map, ℕ, zero, suc, ◌+◌, ◌*◌, Option, Some, None}
 use Rattle.pulse_map.specs.Examples.{Example, starred, Holds}
+use Rattle.tariff.specs.Tariffs.{em}
 use Rattle.slots.specs.Slots.{no_slot, counted_slot, phase_slot}
 use Rattle.phase_lists.specs.Lists.{no_lists}
 use Rattle.demand.specs.Names.{Phase, Slot, Empty, Pulse, Em, KeepBurst}
@@ -34,7 +35,7 @@ abbrev pub StarredHolds : Starred → Type 0
 StarredHolds (of_map e) = Holds e
 StarredHolds (of_em C P slots) = slots_below (counted_slot C P) P ≡ slots
 StarredHolds (of_phase p pulses) = pulses_below (phase_slot p) (1000 * p.pd) ≡ pulses
-StarredHolds (of_answer D S C P a) = answer_after D S [] (parts (Em C P) no_lists KeepBurst) ≡ a
+StarredHolds (of_answer D S C P a) = answer_after D S [] (parts (Em (em C P)) no_lists KeepBurst) ≡ a
 
 abbrev pub AllStarred : List Starred → Type 0
 AllStarred [] = Unit {0}

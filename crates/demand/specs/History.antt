@@ -105,7 +105,13 @@ origin_after S last c = elim last [ never ↦ c + 1 | at u ↦ max (c + 1) (u + 
 -- what an accepted tariff part makes of what ran after tick c; f is the origin of a fresh tariff
 abbrev pub changed_by : TariffPart → List Phase → ℕ → ℕ → Running → Running
 changed_by t ps f c r =
-    elim t [ NoTariff ↦ nothing | KeepTariff ↦ r | Rate P ↦ rated r c P | Em C P ↦ em_at f C P | Phased ↦ phased f ps ]
+    elim t [
+      | NoTariff ↦ nothing
+      | KeepTariff ↦ r
+      | Rate P ↦ rated r c P
+      | Em m ↦ em_at f m.count m.period
+      | Phased ↦ phased f ps
+    ]
 
 -- a tariff runs to the tick of its completion or, if earlier, to a change
 unfoldable pub running : ℕ → ℕ → List Entry → Running
@@ -116,7 +122,7 @@ running D S (e ∷ h) =
 
 -- only a fresh em zeroes the counters
 abbrev pub zeroed_by : TariffPart → ℕ → ℕ
-zeroed_by t n = elim t [ NoTariff ↦ n | KeepTariff ↦ n | Rate P ↦ n | Em C P ↦ 0 | Phased ↦ n ]
+zeroed_by t n = elim t [ NoTariff ↦ n | KeepTariff ↦ n | Rate P ↦ n | Em m ↦ 0 | Phased ↦ n ]
 
 -- the fronts since the last accepted fresh em, or since the start
 unfoldable pub fronts_since_em : List Entry → ℕ

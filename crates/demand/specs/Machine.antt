@@ -4,8 +4,8 @@ use Rattle.std.specs.Prelude.{None, Some}
 use Rattle.tariff.specs.Tariffs.{is_endless}
 use Rattle.descriptor.specs.Refusals.{refusal_number, ruling}
 use Rattle.burst.specs.Bursts.{is_running}
-use Rattle.line.specs.Lines.{make_of, read_answer, commit_of, ask_of, hook_of, period_of, no_period_of, audit_of}
-use Rattle.line.specs.Lines.{tick_of, on_of}
+use Rattle.line.specs.Lines.{make_of, made_or_blank, read_answer, commit_of, ask_of, hook_of, period_of, no_period_of}
+use Rattle.line.specs.Lines.{audit_of, tick_of, on_of}
 use Rattle.line.specs.declared.Line.{Line}
 use Rattle.line.specs.Lines.{Verdict}
 use Rattle.line.specs.declared.Answered.{Answered}
@@ -62,7 +62,7 @@ step l tick = moved (tick_of l)
 
 -- what the table of refusals makes of a call on this line
 abbrev pub ruling_of : Line → Call → Ruling
-ruling_of l c = ruling (causes l.spacing (is_endless l.state.tariff) (is_running l.state.burst) l.serial c)
+ruling_of l c = ruling (causes l.spacing (is_endless l.state.timed.tariff) (is_running l.state.burst) l.serial c)
 
 -- the entry of a call that was answered a and left the line l
 abbrev pub entry_for : Call → Answer → Line → Entry
@@ -88,6 +88,6 @@ entries (past h l) = h
 abbrev pub line_after : Past → Line
 line_after (past h l) = l
 
--- from a line of pulse length D and gap G, as it is made
+-- from a line of pulse length D and gap G as it is made, or from a blank one where they are refused
 unfoldable pub history : ℕ → ℕ → ℕ → List Call → List Entry
-history D G clock cs = entries (after_calls (past [] (make_of D G clock).line) cs)
+history D G clock cs = entries (after_calls (past [] (made_or_blank (make_of D G clock))) cs)

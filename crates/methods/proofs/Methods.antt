@@ -1,7 +1,8 @@
 -- Nothing lies between the code and the theorems about lists. Each claim is drawn from the contract that the method is proved
 -- to meet: a contract that says less, or that asks for anything, is refused here.
 use mathlib.Core.Path.{◌≡◌}
-use mathlib.Core.Bool.{cond}
+use mathlib.Core.Bool.{false, cond}
+use mathlib.Core.List.{List, []}
 use Prim.Native.Nat.{ℕ}
 use types.Logic.{Logic}
 use borrow.Table.Steps.{cases}
@@ -19,19 +20,26 @@ use denote.Triple.Clauses.{Ended, AtExit, at_exit}
 use denote.Triple.Weaken.{weaken}
 use Rattle.line.specs.contracts.Line as L
 use Rattle.line.proofs.Line as L_code
+use Rattle.line.specs.contracts.making.LineDefault.default as blank
+use Rattle.line.proofs.making.LineDefault.default.Met as blank_met
 use Rattle.lent.specs.contracts.tick_in_place as lent
 use Rattle.lent.proofs.tick_in_place.Met as lent_met
 use Rattle.descriptor.specs.Refusals.{sound_configuration}
 use Rattle.answers.specs.declared.Tick.{Tick}
-use Rattle.line.specs.Lines.{make_of, describe_text_of, tick_of}
+use Rattle.line.specs.Lines.{blank_line, make_of, describe_text_of, tick_of}
 use Rattle.line.specs.declared.Line.{Line}
-use Rattle.demand.specs.Calls.{tick, accepted, refused, ticked}
-use Rattle.demand.specs.Machine.{verdict_told, outcome, step, history}
-use Rattle.methods.specs.Methods.{Of, ensuring, Meeting, Does, Methods}
+use Rattle.demand.specs.Calls.{Call, tick, accepted, refused, ticked}
+use Rattle.demand.specs.Machine.{outcome, step, past, after_calls, entries, history}
+use Rattle.methods.specs.Methods.{Of, making_told, ensuring, Meeting, Does, Methods}
 
-taken : (D G clock : ℕ) → verdict_told (make_of D G clock).verdict ≡ cond (sound_configuration D G) (accepted 0) (refused 1)
+taken : (D G clock : ℕ) → making_told (make_of D G clock) ≡ cond (sound_configuration D G) (accepted 0) (refused 1)
 unfolding make_of
 taken D G clock = cases (sound_configuration D G) (λ e. rw e) (λ e. rw e)
+
+-- where a configuration is refused, its history is that of a blank line
+blank-begins : {l : Line} → l ≡ blank_line → (D G clock : ℕ) (cs : List Call) → sound_configuration D G ≡ false → history D G clock cs ≡ entries (after_calls (past [] l) cs)
+unfolding history make_of
+blank-begins e D G clock cs unsound = rw (unsound, e)
 
 -- a tick by what it tells and the line that it leaves
 lent-step : (l : Line) {r : Tick} {l' : Line} → r ≡ (tick_of l).tick → l' ≡ (tick_of l).line → step l tick ≡ outcome (ticked r) l'
@@ -58,7 +66,8 @@ module _ {M : Type 1} {𝓤 : Ura M} (𝓛 : Logic 𝓤) (𝓜 : Model 𝓤 𝓛
   unfolding step history describe_text_of
   methods =
       record {
-        make = told (λ κs a. (L.make.clauses 𝓛 𝓜.mem 𝓡.returns κs a).ensures tt) (L_code.make.Met.met 𝓤 𝓛 𝓜 𝓡) (λ _ a _ _. fact_mono 𝓤 _ _ (λ e. (rw e (taken a.0 a.1.0 a.1.1.0), λ cs. rw e)));
+        make = told (λ κs a. (L.make.clauses 𝓛 𝓜.mem 𝓡.returns κs a).ensures tt) (L_code.make.Met.met 𝓤 𝓛 𝓜 𝓡) (λ _ a _ _. fact_mono 𝓤 _ _ (λ e. (rw e (taken a.0.pulse a.0.gap a.0.clock), λ cs. rw e)));
+        blank = told (λ κs a. (blank.clauses 𝓛 𝓜.mem 𝓡.returns κs a).ensures tt) (blank_met.met 𝓤 𝓛 𝓜 𝓡) (λ _ _ _ _. fact_mono 𝓤 _ _ (λ e. blank-begins e));
         describes = told (λ κs a. (L.describe.clauses 𝓛 𝓜.mem 𝓡.returns κs a).ensures tt) (L_code.describe.Met.met 𝓤 𝓛 𝓜 𝓡) (λ _ _ _ _. fact_mono 𝓤 _ _ (λ e. rw e));
         asks = told (λ κs a. (L.ask.clauses 𝓛 𝓜.mem 𝓡.returns κs a).ensures tt) (L_code.ask.Met.met 𝓤 𝓛 𝓜 𝓡) (λ _ _ _ _. fact_mono 𝓤 _ _ (λ e. rw e));
         commits = told (λ κs a. (L.commit.clauses 𝓛 𝓜.mem 𝓡.returns κs a).ensures tt) (L_code.commit.Met.met 𝓤 𝓛 𝓜 𝓡) (λ _ _ _ _. fact_mono 𝓤 _ _ (λ e. rw e));

@@ -1,5 +1,5 @@
 -- What each public method of a line does, in every model of the machine: the step that a list of calls takes.
-use Rattle.std.specs.Prelude.{◌≡◌, cond, List, [], None}
+use Rattle.std.specs.Prelude.{◌≡◌, false, cond, List, [], ℕ, None, Result, Ok, Err}
 use seplogic.Ra.Ura.{Ura}
 use base.Logic.{SProp, emp}
 use prog.Model.{Model}
@@ -12,20 +12,29 @@ use contract.Running.{Running}
 use denote.Triple.Entry.{Args, Res}
 use denote.Triple.Spec.{Meets}
 use denote.Triple.Clauses.{Ended, AtExit, Clauses, closing}
-use Rattle.line.specs.Lines.{meant_by}
+use Rattle.line.specs.Lines.{made_or_blank, meant_by}
+use Rattle.line.specs.declared.Line.{Line}
 use Rattle.line.specs.contracts.Line as L
 use Rattle.line.proofs.Line as L_code
+use Rattle.line.specs.contracts.making.LineDefault.default as blank
+use Rattle.line.proofs.making.LineDefault.default.Symbol as blank_code
 use Rattle.lent.specs.contracts.tick_in_place as lent
 use Rattle.lent.proofs.tick_in_place.Symbol as lent_code
-use Rattle.descriptor.specs.Refusals.{sound_configuration}
+use Rattle.descriptor.specs.Refusals.{refusal_number, sound_configuration}
+use Rattle.descriptor.specs.declared.Refusal.{Refusal}
 use Rattle.demand.specs.Calls.{Call, describe, ask, hook, period, no_period, audit, tick}
 use Rattle.demand.specs.Calls.{Answer, accepted, refused, ticked}
-use Rattle.demand.specs.Machine.{verdict_told, outcome, answered, ticketed, audited, moved, step, entry_for}
+use Rattle.demand.specs.Machine.{outcome, answered, ticketed, audited, moved, step, entry_for}
 use Rattle.demand.specs.Machine.{commit, past, after_calls, entries, history}
 
 -- of the values passed to a call, its result, and the values passed as they are after it
 abbrev pub Of {ℓ} : Ended → Type ℓ → Type ℓ
 Of T P = (κs : Lfts T.signature.lifetimes) → Args T.signature κs → Res T.signature κs → AtExit T κs → P
+
+-- what making a line answers: no burst pulse is cancelled, or the number of the refusal
+abbrev pub making_told : Result Line Refusal → Answer
+making_told (Ok l) = accepted 0
+making_told (Err r) = refused (refusal_number r)
 
 -- in every model of the machine
 module _ {M : Type 1} {𝓤 : Ura M} (𝓛 : Logic 𝓤) (𝓜 : Model 𝓤 𝓛.H) (𝓡 : Running 𝓤 𝓛.H 𝓜) where
@@ -42,11 +51,16 @@ module _ {M : Type 1} {𝓤 : Ura M} (𝓛 : Logic 𝓤) (𝓜 : Model 𝓤 𝓛
     pub does : Meeting T name code (λ κs a r e. fact 𝓤 (claim κs a r e))
 
   pub record Methods : Type 1 where
-    -- it answers whether the configuration is taken, and its line begins the list
+    -- it answers whether the configuration is taken; the line that it makes, or a blank one, begins the list
     pub make : Does L.make.ended L_code.make.Symbol.name L_code.make.Symbol.code
-        (λ _ (D, (G, (clock, _))) r _.
-        (verdict_told r.verdict ≡ cond (sound_configuration D G) (accepted 0) (refused 1)) ×
-        ((cs : List Call) → history D G clock cs ≡ entries (after_calls (past [] r.line) cs)))
+        (λ _ (given, _) r _.
+        (making_told r ≡ cond (sound_configuration given.pulse given.gap) (accepted 0) (refused 1)) ×
+        ((cs : List Call) →
+        history given.pulse given.gap given.clock cs ≡ entries (after_calls (past [] (made_or_blank r)) cs)))
+    -- where the configuration is refused, a blank line begins the list
+    pub blank : Does blank.ended blank_code.name blank_code.code
+        (λ _ _ r _. (D G clock : ℕ) (cs : List Call) → sound_configuration D G ≡ false →
+        history D G clock cs ≡ entries (after_calls (past [] r) cs))
     pub describes : Does L.describe.ended L_code.describe.Symbol.name L_code.describe.Symbol.code
         (λ _ (l, (d, _)) r _. step l (describe None (meant_by d)) ≡ answered r)
     pub asks : Does L.ask.ended L_code.ask.Symbol.name L_code.ask.Symbol.code
