@@ -4,8 +4,8 @@
 ghost use Rattle.std.specs.Prelude.{◌≡◌, ◌-◌};
 ghost use Rattle.burst.specs.Bursts.{start_of, is_running, burst_owed, held_more, older_of, completes_of, aged_of, is_due, any_due, burst_quiet, begun_of};
 
-// A burst that runs: the pulses owed, the least distance of its fronts, and the ticks since its last front, held at that
-// distance.
+// A burst that runs: the pulses owed, the least distance of its fronts, and the ticks since its last front, held at
+// that distance.
 #[derive(Clone, Copy, PartialEq, Eq, Debug)]
 pub struct Burst {
     pub owed: u32,
@@ -114,8 +114,8 @@ pub fn age(burst: Option<Burst>, pulse: u32) -> Aged
     }
 }
 
-// Whether nothing of a burst or none happens one tick on, where `passed` says whether S ticks will have passed since the
-// last front.
+// Whether nothing of a burst or none happens one tick on, where `passed` says whether S ticks will have passed since
+// the last front.
 #[tactic(auto, unfolding(crate::specs::Bursts::burst_quiet))]
 pub fn is_quiet(burst: Option<Burst>, pulse: u32, passed: bool) -> bool
     ensures { result ≡ burst_quiet pulse passed burst }

@@ -1,5 +1,5 @@
 -- A card: lines in a row and their dispatcher, the calls on it, and the history of a list of them.
-use Rattle.std.specs.Prelude.{cond, List, [], ◌∷◌, map, ℕ, suc, min, ltb, eqb, length, take}
+use Rattle.std.specs.Prelude.{if◌then◌else◌, List, [], ◌∷◌, map, ℕ, suc, min, nat_lt, ◌==◌, length, take}
 use Rattle.std.specs.Prelude.{Option, Some, None, Ok, Err}
 use Rattle.answers.specs.Fronts.{silent}
 use Rattle.answers.specs.declared.Tick.{Tick}
@@ -51,9 +51,9 @@ rate P = parts (Rate P) no_lists Keep
 
 -- the calls that it makes on the line at place i, if it is not refused
 abbrev pub calls_at : CardCall → ℕ → List Call
-calls_at (on_line p c) i = cond (eqb i p) (c ∷ []) []
-calls_at (tick_row m) i = cond (ltb i m) (tick ∷ []) []
-calls_at (group m ps P) i = cond (named ps i) (rate P ∷ []) []
+calls_at (on_line p c) i = if i == p then c ∷ [] else []
+calls_at (tick_row m) i = if nat_lt i m then tick ∷ [] else []
+calls_at (group m ps P) i = if named ps i then rate P ∷ [] else []
 
 -- where the line at each place i gets the calls f i: the entries that they make, and the line after them
 unfoldable pub row_after : (ℕ → List Call) → List Line → List Past
@@ -73,7 +73,7 @@ refused_with (Err r) = Some (refusal_number r)
 -- the number that it is refused with; a card that is shorter than m is lent whole
 abbrev pub refusal : Card → CardCall → Option ℕ
 refusal k (on_line p c) = None
-refusal k (tick_row m) = cond (wrong_row k.dispatcher.length (min m (length k.lines))) (Some 14) None
+refusal k (tick_row m) = if wrong_row k.dispatcher.length (min m (length k.lines)) then Some 14 else None
 refusal k (group m ps P) = refused_with (verdict_of (take m k.lines) ps P)
 
 -- not refused: its reply where it made these entries, and the dispatcher after it

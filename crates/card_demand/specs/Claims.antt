@@ -1,5 +1,5 @@
 -- R-4 to R-6: one claim about the history of every list of calls on a card of fresh lines with a fresh dispatcher.
-use Rattle.std.specs.Prelude.{◌≡◌, true, false, cond, List, [], ◌∷◌, ◌++◌, ℕ, ◌+◌, ◌^◌, min, ◌≤◌, ◌<◌, length, get_or}
+use Rattle.std.specs.Prelude.{◌≡◌, true, false, if◌then◌else◌, List, [], ◌∷◌, ◌++◌, ℕ, ◌+◌, ◌^◌, min, ◌≤◌, ◌<◌, length, get_or}
 use Rattle.std.specs.Prelude.{Option, Some}
 use Rattle.descriptor.specs.Refusals.{sound_configuration}
 use Rattle.dispatcher.specs.Dispatch.{tells, notice, bad_row, wrong_row, sent_of, turn_of, waits_in}
@@ -46,7 +46,7 @@ first_refused f (p ∷ ps) = refusal_else (f p) (first_refused f ps)
 -- refused with 14 for a row that is empty or longer than 64, then with 15 for a place outside the row, and then with
 -- the number of the first line in list order that would refuse
 abbrev pub rate_reply : ℕ → List ℕ → (ℕ → Answer) → CardReply
-rate_reply n ps f = cond (bad_row n) (refuses 14) (cond (outside ps n) (refuses 15) (first_refused f ps))
+rate_reply n ps f = if bad_row n then refuses 14 else if outside ps n then refuses 15 else first_refused f ps
 
 -- the line at place i got one call in the entry e, a rate command, and accepted it: no burst pulse is cancelled
 abbrev pub TookRate : CardEntry → ℕ → ℕ → Type 0
@@ -110,8 +110,8 @@ module _ (ms : List Making) (cs : List CardCall) where
         e.call ≡ tick_row m →
         let n = min m (length ms) in
         e.reply ≡
-        cond (wrong_row (row before) n) (refuses 14)
-        (sends (sent_of (due e before) (turn_of (due e before) n (next before))))
+        (if wrong_row (row before) n then refuses 14
+        else sends (sent_of (due e before) (turn_of (due e before) n (next before))))
     -- a line with something to tell is heard within as many ticks of the dispatcher as the row has lines, if so many
     -- follow; the tick in which it fell counts as one of them
     pub heard : (rest before : List CardEntry) (e : CardEntry) (i : ℕ) → h ≡ rest ++ (e ∷ before) →

@@ -1,6 +1,6 @@
 -- What the contracts of dispatcher and group compute of a lent row is the step of the card, and so is what a call makes
 -- of a line.
-use Rattle.std.specs.Prelude.{◌≡◌, cond, List, [], ◌++◌, map, ℕ, length, get_or, set, take, drop, Ok, Err, is_ok}
+use Rattle.std.specs.Prelude.{◌≡◌, if◌then◌else◌, List, [], ◌++◌, map, ℕ, length, get_or, set, take, drop, Ok, Err, is_ok}
 use Rattle.std.specs.Prelude.{if◌then◌else◌}
 use Rattle.descriptor.specs.Refusals.{refusal_number}
 use Rattle.line.specs.Lines.{Verdict, blank_line}
@@ -40,7 +40,8 @@ lent_step k m =
     record {
       entry =
           card_entry (tick_row m) (replied (dispatch_of d row).reply)
-          (cond (wrong_row d.length (length row)) [] (map (λ l. entries (called_on l tick)) row ++ no_entries others));
+          (if wrong_row d.length (length row) then []
+          else map (λ l. entries (called_on l tick)) row ++ no_entries others);
       card = record { lines = row_of d row ++ others; dispatcher = (dispatch_of d row).dispatcher };
     }
 

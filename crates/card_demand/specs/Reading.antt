@@ -1,5 +1,5 @@
 -- What a card's history says of each line: read from its calls, its replies and the lines' entries alone.
-use Rattle.std.specs.Prelude.{Bool, true, false, cond, ◌&&◌, List, [], ◌∷◌, ◌++◌, ℕ, ◌+◌, min, ltb, eqb, get_or}
+use Rattle.std.specs.Prelude.{Bool, true, false, if◌then◌else◌, ◌&&◌, List, [], ◌∷◌, ◌++◌, ℕ, ◌+◌, min, nat_lt, ◌==◌, get_or}
 use Rattle.std.specs.Prelude.{if◌then◌else◌, Option, Some, None}
 use Rattle.std.specs.Option.{option_or, unwrap_or}
 use Rattle.answers.specs.declared.Tick.{Tick}
@@ -36,7 +36,7 @@ abbrev pub sent_in : CardEntry → Option Notice
 sent_in e = elim e.reply [ done ↦ None | sends s ↦ s | refuses n ↦ None ]
 
 abbrev pub one_if : Bool → ℕ → ℕ
-one_if b n = cond b (n + 1) n
+one_if b n = if b then n + 1 else n
 
 -- how many entries f holds of
 unfoldable pub number : (CardEntry → Bool) → List CardEntry → ℕ
@@ -88,25 +88,25 @@ fallen f h i = number (λ e. fell f e i) h
 
 -- the notice of the line
 abbrev pub serves : CardEntry → ℕ → Bool
-serves e i = elim (sent_in e) [ None ↦ false | Some n ↦ eqb i n.place ]
+serves e i = elim (sent_in e) [ None ↦ false | Some n ↦ i == n.place ]
 
 -- how many fell since its last notice
 unfoldable pub since : (Tick → Bool) → List CardEntry → ℕ → ℕ
 since f [] i = 0
-since f (e ∷ h) i = cond (serves e i) 0 (one_if (fell f e i) (since f h i))
+since f (e ∷ h) i = if serves e i then 0 else one_if (fell f e i) (since f h i)
 
 -- the reports that its notices carried
 unfoldable pub sent_reports : List CardEntry → ℕ → ℕ
 sent_reports [] i = 0
 sent_reports (e ∷ h) i =
     let k = sent_reports h i in
-    elim (sent_in e) [ None ↦ k | Some n ↦ cond (eqb i n.place) (k + n.told.reports) k ]
+    elim (sent_in e) [ None ↦ k | Some n ↦ if i == n.place then k + n.told.reports else k ]
 
 -- ---- what there is to tell
 
 -- a completion mark is set if one or more fell
 abbrev pub marked : ℕ → Bool
-marked n = ltb 0 n
+marked n = nat_lt 0 n
 
 -- where n says how many of each fell
 abbrev pub telling_of : ((Tick → Bool) → ℕ) → Waiting

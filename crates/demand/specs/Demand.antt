@@ -1,6 +1,6 @@
 -- Demand 3: one claim about the history of every list of calls.
-use Rattle.std.specs.Prelude.{◌≡◌, true, cond, ◌↔◌, List, [], ◌∷◌, ◌++◌, ℕ, ◌+◌, ◌-◌, ◌*◌, ◌%◌, ◌^◌, min, max, ◌≤◌}
-use Rattle.std.specs.Prelude.{ltb, Some}
+use Rattle.std.specs.Prelude.{◌≡◌, true, if◌then◌else◌, ◌↔◌, List, [], ◌∷◌, ◌++◌, ℕ, ◌+◌, ◌-◌, ◌*◌, ◌%◌, ◌^◌, min, max, ◌≤◌}
+use Rattle.std.specs.Prelude.{nat_lt, Some}
 use Rattle.demand.specs.Names.{TariffFront, BurstFront, Pulse, Stop, NoBurst, KeepBurst, Start}
 use Rattle.demand.specs.Names.{TariffPart, NoTariff, KeepTariff, Rate, Em, Phased, is_front, slot_at}
 use Rattle.demand.specs.Calls.{Call, hook, audit, Answer, accepted, counters, Entry}
@@ -16,7 +16,7 @@ is_fresh t = elim t [ NoTariff ↦ 0 | KeepTariff ↦ 0 | Rate P ↦ 0 | Em m �
 -- of the entries after the start of a burst of n pulses, rest, those before its last pulse, or all if it has not begun
 unfoldable pub before_last : (Entry → ℕ) → ℕ → List Entry → ℕ
 before_last f n [] = 0
-before_last f n (e ∷ rest) = cond (ltb (begun rest) n) (f e) 0 + before_last f n rest
+before_last f n (e ∷ rest) = (if nat_lt (begun rest) n then f e else 0) + before_last f n rest
 
 -- R: the fresh tariffs accepted there
 abbrev pub fresh_before : ℕ → List Entry → ℕ

@@ -1,5 +1,5 @@
 -- The starred examples of the paper, together in one list, and what each says of the definitions.
-use Rattle.std.specs.Prelude.{◌≡◌, cond, List, [], ◌∷◌, ◌++◌, map, ℕ, zero, suc, ◌+◌, ◌*◌, Option, Some, None}
+use Rattle.std.specs.Prelude.{◌≡◌, if◌then◌else◌, List, [], ◌∷◌, ◌++◌, map, ℕ, zero, suc, ◌+◌, ◌*◌, Option, Some, None}
 use Rattle.pulse_map.specs.Examples.{Example, starred, Holds}
 use Rattle.tariff.specs.Tariffs.{em}
 use Rattle.slots.specs.Slots.{no_slot, counted_slot, phase_slot}
@@ -12,7 +12,7 @@ use Rattle.demand.specs.Answers.{answer_after}
 -- the ticks below n at which a tariff has a slot, counted from its origin
 abbrev pub slots_below : (ℕ → Option Slot) → ℕ → List ℕ
 slots_below slot zero = []
-slots_below slot (suc n) = slots_below slot n ++ cond (no_slot (slot n)) [] (n ∷ [])
+slots_below slot (suc n) = slots_below slot n ++ (if no_slot (slot n) then [] else n ∷ [])
 
 -- how many of them have a pulse
 unfoldable pub pulses_below : (ℕ → Option Slot) → ℕ → ℕ

@@ -1,5 +1,5 @@
 -- What a history says of the line: read from its calls and answers alone. A history is held newest first.
-use Rattle.std.specs.Prelude.{Bool, true, false, cond, ◌&&◌, ◌||◌, List, [], ◌∷◌, ℕ, ◌+◌, ◌-◌, max, leb, ltb, eqb}
+use Rattle.std.specs.Prelude.{Bool, true, false, if◌then◌else◌, ◌&&◌, ◌||◌, List, [], ◌∷◌, ℕ, ◌+◌, ◌-◌, max, nat_le, nat_lt, ◌==◌}
 use Rattle.std.specs.Prelude.{Option, None}
 use Rattle.slots.specs.Slots.{Running, nothing, phased, em_at, rated, completes_at}
 use Rattle.demand.specs.Names.{Front, Tick, Phase, TariffPart, NoTariff, KeepTariff, Rate, Em, Phased, one_more}
@@ -43,7 +43,7 @@ cancelled h =
 -- ticks are numbered from 1: the next one is ticks h + 1
 unfoldable pub ticks : List Entry → ℕ
 ticks [] = 0
-ticks (e ∷ h) = cond (granted e).tick (ticks h + 1) (ticks h)
+ticks (e ∷ h) = if (granted e).tick then ticks h + 1 else ticks h
 
 -- the tick of the last front, if there was one
 pub data Last : Type 0 where
@@ -56,11 +56,11 @@ last_front (e ∷ h) = if_front (front_of e) (at (ticks h + 1)) (last_front h)
 
 -- n ticks have passed at tick now since the last front; with no earlier front this asks nothing
 abbrev pub passed : ℕ → Last → ℕ → Bool
-passed n last now = elim last [ never ↦ true | at u ↦ leb (u + n) now ]
+passed n last now = elim last [ never ↦ true | at u ↦ nat_le (u + n) now ]
 
 -- a pulse of D ticks that began at the last front is on at tick now
 abbrev pub pulse_on : ℕ → Last → ℕ → Bool
-pulse_on D last now = elim last [ never ↦ false | at u ↦ ltb now (u + D) ]
+pulse_on D last now = elim last [ never ↦ false | at u ↦ nat_lt now (u + D) ]
 
 -- the burst that was started last, unless it was cancelled: how many of its n fronts began, and the last of them
 pub data Started : Type 0 where
@@ -87,16 +87,16 @@ owed h = owed_of (burst_in h)
 
 -- a burst runs until its last pulse ends, and is complete then
 abbrev pub burst_runs : ℕ → Started → ℕ → Bool
-burst_runs D b now = elim b [ idle ↦ false | started n P k last ↦ ltb k n || pulse_on D last now ]
+burst_runs D b now = elim b [ idle ↦ false | started n P k last ↦ nat_lt k n || pulse_on D last now ]
 
 abbrev pub burst_completes : ℕ → Started → ℕ → Bool
 burst_completes D idle now = false
 burst_completes D (started n P k never) now = false
-burst_completes D (started n P k (at u)) now = leb n k && eqb now (u + D)
+burst_completes D (started n P k (at u)) now = nat_le n k && now == u + D
 
 -- a burst pulse is owed, and the larger of P and S has passed since this burst's last front
 abbrev pub burst_ready : ℕ → Started → ℕ → Bool
-burst_ready S b now = elim b [ idle ↦ false | started n P k last ↦ ltb k n && passed (max P S) last now ]
+burst_ready S b now = elim b [ idle ↦ false | started n P k last ↦ nat_lt k n && passed (max P S) last now ]
 
 -- the later of the next tick and S after the last front
 abbrev pub origin_after : ℕ → Last → ℕ → ℕ
@@ -118,7 +118,7 @@ unfoldable pub running : ℕ → ℕ → List Entry → Running
 running D S [] = nothing
 running D S (e ∷ h) =
     changed_by (granted e).tariff (granted e).phases (origin_after S (last_front h) (ticks h)) (ticks h)
-    (cond ((granted e).tick && completes_at D (running D S h) (ticks h + 1)) nothing (running D S h))
+    (if (granted e).tick && completes_at D (running D S h) (ticks h + 1) then nothing else running D S h)
 
 -- only a fresh em zeroes the counters
 abbrev pub zeroed_by : TariffPart → ℕ → ℕ
@@ -135,7 +135,7 @@ unfoldable pub since_report : List Entry → ℕ
 since_report [] = 0
 since_report (e ∷ h) =
     zeroed_by (granted e).tariff
-    (cond (told e.answer).report 0 (if_front (front_of e) (one_more (since_report h)) (since_report h)))
+    (if (told e.answer).report then 0 else if_front (front_of e) (one_more (since_report h)) (since_report h))
 
 -- the report period, if one is set
 unfoldable pub period_in : List Entry → Option ℕ

@@ -1,5 +1,5 @@
 -- Ask first, commit later: one claim about the history of every list of calls.
-use Rattle.std.specs.Prelude.{◌≡◌, Bool, true, false, cond, ◌&&◌, List, [], ◌∷◌, ◌++◌, ℕ, ◌+◌, ◌≤◌, ◌<◌, eqb}
+use Rattle.std.specs.Prelude.{◌≡◌, Bool, true, false, if◌then◌else◌, ◌&&◌, List, [], ◌∷◌, ◌++◌, ℕ, ◌+◌, ◌≤◌, ◌<◌, ◌==◌}
 use Rattle.std.specs.Prelude.{None}
 use Rattle.demand.specs.Names.{Reading}
 use Rattle.demand.specs.Calls.{Call, describe, ask, hook, period, no_period, audit, tick}
@@ -25,7 +25,7 @@ only_quiet (e ∷ h) = is_quiet e.call && only_quiet h
 
 -- a serial at its top is refused with 17; else the answer is a
 abbrev pub unless_top : ℕ → Answer → Answer
-unless_top serial a = cond (eqb serial 4294967295) (refused 17) a
+unless_top serial a = if serial == 4294967295 then refused 17 else a
 
 -- a list of calls on a line of pulse length D and gap G
 module _ (D G clock : ℕ) (cs : List Call) where
@@ -51,7 +51,7 @@ module _ (D G clock : ℕ) (cs : List Call) where
     -- committing refuses a ticket that differs from the serial with 16; else it is answered so too
     pub committing : (after before : List Entry) (e : Entry) (d : Reading) (n : ℕ) → h ≡ after ++ (e ∷ before) →
         e.call ≡ commit n d →
-        e.answer ≡ cond (eqb n (serial_in before)) (unless_top (serial_in before) (gets before d)) (refused 16)
+        e.answer ≡ (if n == serial_in before then unless_top (serial_in before) (gets before d) else refused 16)
     -- if asking was favourable and only ticks and audits have passed, committing is accepted
     pub favoured : (between : List Entry) (a c : Entry) (d : Reading) (n k : ℕ) → Committed between a c d n →
         a.answer ≡ asked (accepted k) n → only_quiet between ≡ true → (j : ℕ) × (c.answer ≡ accepted j)

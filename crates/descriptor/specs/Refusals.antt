@@ -1,6 +1,6 @@
 -- What is turned down: the table of the paper, and what the requests add to it. Causes stand in the order in which
 -- they count, ascending where a request names no other.
-use Rattle.std.specs.Prelude.{Bool, cond, not, ◌&&◌, List, [], ◌∷◌, ◌++◌, ℕ, eqb}
+use Rattle.std.specs.Prelude.{Bool, if◌then◌else◌, not, ◌&&◌, List, [], ◌∷◌, ◌++◌, ℕ, ◌==◌}
 use Rattle.tariff.specs.Ranges.{within}
 use Rattle.rules.specs.Rules.{sound_em, sound_phases}
 use Rattle.phase_lists.specs.Lists.{Lists, phases_of, sound_lists}
@@ -33,7 +33,7 @@ pub data Cause : Type 0 where
 -- the first cause that applies
 unfoldable pub ruling : List Cause → Ruling
 ruling [] = Ok tt
-ruling (cause r applies ∷ rest) = cond applies (Err r) (ruling rest)
+ruling (cause r applies ∷ rest) = if applies then Err r else ruling rest
 
 -- D and G, each 1 to 500
 abbrev pub sound_configuration : ℕ → ℕ → Bool
@@ -64,8 +64,8 @@ module _ (S : ℕ) (endless_runs burst_runs : Bool) where
 
 -- a report period of 0 is refused
 abbrev pub period_causes : ℕ → List Cause
-period_causes n = cause Period (eqb n 0) ∷ []
+period_causes n = cause Period (n == 0) ∷ []
 
 -- on commit: a ticket that differs from the serial, and then a serial at its top
 abbrev pub ticket_causes : ℕ → ℕ → List Cause
-ticket_causes ticket serial = cause Ticket (not (eqb ticket serial)) ∷ cause Serial (eqb serial 4294967295) ∷ []
+ticket_causes ticket serial = cause Ticket (not (ticket == serial)) ∷ cause Serial (serial == 4294967295) ∷ []

@@ -1,5 +1,5 @@
 -- The table of refusals as the code goes through it, with the phase lists read and met in one pass.
-use Rattle.std.specs.Prelude.{Bool, cond, ℕ, Ok, Err}
+use Rattle.std.specs.Prelude.{Bool, if◌then◌else◌, ℕ, Ok, Err}
 use Rattle.tariff.specs.Ranges.{within}
 use Rattle.rules.specs.Rules.{sound_em}
 use Rattle.rules.specs.declared.Carry.{Carry}
@@ -25,7 +25,7 @@ table_for S (Em m) ls = no_table
 table_for S Phased ls = table_of S ls
 
 abbrev pub ruled_by : Ruling → Bool → Ruling → Ruling
-ruled_by why sound rest = cond sound rest why
+ruled_by why sound rest = if sound then rest else why
 
 -- by what the phases leave to carry: their number is judged before the phases
 abbrev pub carried_ruling : Carry → Ruling
@@ -46,7 +46,7 @@ unfoldable pub burst_ruling : Bool → BurstPart → Ruling
 burst_ruling running NoBurst = Ok tt
 burst_ruling running KeepBurst = Ok tt
 burst_ruling running (Start n P) =
-    ruled_by (Err Burst) (sound_burst n P) (cond running (Err BurstRuns) (Ok tt))
+    ruled_by (Err Burst) (sound_burst n P) (if running then Err BurstRuns else Ok tt)
 
 -- a ruling, or where that is allowed the next
 abbrev pub and_then : Ruling → Ruling → Ruling

@@ -1,4 +1,5 @@
-// A descriptor and an on-hook event: what they carry, the table of phases, and what the table of refusals makes of them.
+// A descriptor and an on-hook event: what they carry, the table of phases, and what the table of refusals makes of
+// them.
 #![tactic(auto)]
 
 mod cancelling;

@@ -113,8 +113,8 @@ fn burst_ruling(running: bool, part: BurstPart) -> Ruling
 }
 
 impl Parts {
-    // What the table makes of a descriptor, on a line of this spacing. `endless` says whether an em with C = 0 runs, and
-    // `running` whether a burst runs.
+    // What the table makes of a descriptor, on a line of this spacing. `endless` says whether an em with C = 0 runs,
+    // and `running` whether a burst runs.
     pub fn ruling(self, spacing: u32, endless: bool, running: bool) -> Ruling
         ensures { result ≡ descriptor_ruling spacing endless running self.tariff self.table self.burst }
     {

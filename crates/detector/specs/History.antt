@@ -1,5 +1,5 @@
 -- What the paper says of a list of calls, read from the calls and their answers alone. A history is held newest first.
-use Rattle.std.specs.Prelude.{◌≡◌, Bool, true, false, cond, not, ◌&&◌, List, [], ◌∷◌, ◌⊎◌, ℕ, suc, ◌+◌, ℤ, pos}
+use Rattle.std.specs.Prelude.{◌≡◌, Bool, true, false, if◌then◌else◌, not, ◌&&◌, List, [], ◌∷◌, ◌⊎◌, ℕ, suc, ◌+◌, ℤ, pos}
 use Rattle.std.specs.Prelude.{negsuc, ◌+ℤ◌, ◌-ℤ◌, ◌<ℤ◌}
 use Rattle.detector.specs.declared.request.Request.{Request}
 use Rattle.detector.specs.declared.request.Request.TheVariants.{Off, Pr, Ric}
@@ -37,11 +37,11 @@ restarts events reply on = changes events reply on && enabled (requested_by even
 
 -- The pulses that a tick adds: 1 where it has a pulse and the detector is enabled.
 abbrev pub pulses_at : Request → Bool → ℕ
-pulses_at on pulse = cond (enabled on && pulse) 1 0
+pulses_at on pulse = if enabled on && pulse then 1 else 0
 
 -- The pulses since the last request that changed to a non-off one.
 abbrev pub pulses_after : Entry → Request → ℕ → ℕ
-pulses_after (asked events reply) on n = cond (restarts events reply on) 0 n
+pulses_after (asked events reply) on n = if restarts events reply on then 0 else n
 pulses_after (ticked pulse notice) on n = n + pulses_at on pulse
 pulses_after (audited lri cpc pcslr) on n = n
 
@@ -52,7 +52,7 @@ pulses_in (e ∷ h) = pulses_after e (request_in h) (pulses_in h)
 
 -- The pulses since the last event or report, or since the counters were zeroed.
 abbrev pub unreported_after : Entry → Request → ℕ → ℕ
-unreported_after (asked events reply) on n = cond (restarts events reply on) 0 n
+unreported_after (asked events reply) on n = if restarts events reply on then 0 else n
 unreported_after (ticked pulse nothing) on n = n + pulses_at on pulse
 unreported_after (ticked pulse report) on n = 0
 unreported_after (ticked pulse (event interval count)) on n = 0
@@ -66,8 +66,8 @@ unreported_in (e ∷ h) = unreported_after e (request_in h) (unreported_in h)
 -- The ticks since the last pulse that an enabled detector saw; ticks while it is off are not counted.
 abbrev pub since_after : Entry → Request → ℕ → ℕ
 since_after (asked events reply) on n = n
-since_after (ticked true notice) on n = cond (enabled on) 0 n
-since_after (ticked false notice) on n = cond (enabled on) (suc n) n
+since_after (ticked true notice) on n = if enabled on then 0 else n
+since_after (ticked false notice) on n = if enabled on then suc n else n
 since_after (audited lri cpc pcslr) on n = n
 
 -- Before the first pulse, as if one lay 1,000,000,000 ticks before the list.
@@ -77,7 +77,7 @@ since_in (e ∷ h) = since_after e (request_in h) (since_in h)
 
 -- lri: the interval of the last event since the request that is on was made, −1 if there is none.
 abbrev pub lri_after : Entry → Request → ℤ → ℤ
-lri_after (asked events reply) on lri = cond (changes events reply on) (negsuc 0) lri
+lri_after (asked events reply) on lri = if changes events reply on then negsuc 0 else lri
 lri_after (ticked pulse nothing) on lri = lri
 lri_after (ticked pulse report) on lri = lri
 lri_after (ticked pulse (event interval count)) on lri = pos interval

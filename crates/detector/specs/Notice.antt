@@ -1,5 +1,5 @@
 -- What a tick gives: the rules of pr and of ric, on plain numbers.
-use Rattle.std.specs.Prelude.{ℕ, zero, suc, ◌+◌, Bool, true, false, cond, eqb, ℤ, pos, negsuc, Option, Some, None}
+use Rattle.std.specs.Prelude.{ℕ, zero, suc, ◌+◌, Bool, true, false, if◌then◌else◌, ◌==◌, ℤ, pos, negsuc, Option, Some, None}
 use Rattle.std.specs.Prelude.{◌-ℤ◌}
 use Rattle.std.specs.Int.Signed.{lt_z}
 use Rattle.detector.specs.declared.request.Request.{Request}
@@ -27,7 +27,7 @@ interval_of (event interval count) = interval
 
 -- Under pr: if pcslr after the pulse equals rp, a report is given.
 abbrev pub pr_notice : Bool → ℕ → ℕ → Notice
-pr_notice true rp pcslr = cond (eqb pcslr rp) report nothing
+pr_notice true rp pcslr = if pcslr == rp then report else nothing
 pr_notice false rp pcslr = nothing
 
 -- Under ric a pulse at lri −1 gives event (0, pcslr); at lri 0, event (e, pcslr); at lri above 0, only if
@@ -35,13 +35,13 @@ pr_notice false rp pcslr = nothing
 abbrev pub pulse_notice : (lri : ℤ) (rit e pcslr : ℕ) → Notice
 pulse_notice (negsuc n) rit e pcslr = event 0 pcslr
 pulse_notice (pos zero) rit e pcslr = event e pcslr
-pulse_notice (pos (suc n)) rit e pcslr = cond (lt_z (pos e) (pos (suc n) -ℤ pos rit)) (event e pcslr) nothing
+pulse_notice (pos (suc n)) rit e pcslr = if lt_z (pos e) (pos (suc n) -ℤ pos rit) then event e pcslr else nothing
 
 -- A tick without a pulse where lri > 0 and e = lri + rit gives event (0, pcslr).
 abbrev pub silence_notice : (lri : ℤ) (rit e pcslr : ℕ) → Notice
 silence_notice (negsuc n) rit e pcslr = nothing
 silence_notice (pos zero) rit e pcslr = nothing
-silence_notice (pos (suc n)) rit e pcslr = cond (eqb e (suc n + rit)) (event 0 pcslr) nothing
+silence_notice (pos (suc n)) rit e pcslr = if e == suc n + rit then event 0 pcslr else nothing
 
 -- Under ric, with or without a pulse.
 abbrev pub ric_notice : Bool → (lri : ℤ) (rit e pcslr : ℕ) → Notice

@@ -1,5 +1,5 @@
 -- What a detector is asked for, and the answer.
-use Rattle.std.specs.Prelude.{ℕ, Bool, true, false, cond, ◌&&◌, ◌||◌, ltb, eqb, Result, Ok, Err}
+use Rattle.std.specs.Prelude.{ℕ, Bool, true, false, if◌then◌else◌, ◌&&◌, ◌||◌, nat_lt, ◌==◌, Result, Ok, Err}
 use Rattle.detector.specs.declared.request.Request.{Request}
 use Rattle.detector.specs.declared.request.Request.TheVariants.{Off, Pr, Ric}
 use Rattle.detector.specs.declared.request.Events.{Events}
@@ -27,7 +27,7 @@ parameter_of (Ric rit) = rit
 
 -- The same request: the same event with the same parameter (7.6.1).
 abbrev pub same_as : Request → Request → Bool
-same_as a b = eqb (event_of a) (event_of b) && eqb (parameter_of a) (parameter_of b)
+same_as a b = event_of a == event_of b && parameter_of a == parameter_of b
 
 -- The request that an events descriptor makes; one with both events is refused, and makes none.
 abbrev pub requested_by : Events → Request
@@ -61,10 +61,10 @@ together (Both rp rit) = true
 -- Detector rp = 0, or rit over 60,000.
 abbrev pub out_of_range : Events → Bool
 out_of_range Neither = false
-out_of_range (PrEvent rp) = eqb rp 0
-out_of_range (RicEvent rit) = ltb 60000 rit
-out_of_range (Both rp rit) = eqb rp 0 || ltb 60000 rit
+out_of_range (PrEvent rp) = rp == 0
+out_of_range (RicEvent rit) = nat_lt 60000 rit
+out_of_range (Both rp rit) = rp == 0 || nat_lt 60000 rit
 
 -- 459 comes before 10.
 abbrev pub reply_to : Events → Reply
-reply_to events = cond (together events) (no 459) (cond (out_of_range events) (no 10) ok)
+reply_to events = if together events then no 459 else if out_of_range events then no 10 else ok

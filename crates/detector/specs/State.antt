@@ -1,5 +1,5 @@
 -- What each call on a detector answers and leaves, for every value of it.
-use Rattle.std.specs.Prelude.{suc, Bool, true, false, cond, pos, negsuc}
+use Rattle.std.specs.Prelude.{suc, Bool, true, false, if◌then◌else◌, pos, negsuc}
 use Rattle.detector.specs.Values.{held_count, top_ticks, elapsed}
 use Rattle.detector.specs.Request.{enabled, same_as, requested_by, Reply, ok, no, reply_of, reply_to}
 use Rattle.detector.specs.Notice.{Notice, nothing, report, event, notice_of, notice_at}
@@ -59,7 +59,7 @@ pulsed false d =
 
 -- While it is off, ticks change nothing.
 abbrev pub counted_of : Bool → Detector → Detector
-counted_of pulse d = cond (enabled d.request) (pulsed pulse d) d
+counted_of pulse d = if enabled d.request then pulsed pulse d else d
 
 -- A report zeroes pcslr. Each event zeroes pcslr, and its interval is the new lri.
 abbrev pub notified : Detector → Notice → Detector

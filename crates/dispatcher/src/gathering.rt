@@ -42,7 +42,8 @@ impl Dispatcher {
     }
 
     // Adds what the tick of the line at place i told.
-    // Stays: a test of the place. `get_mut` was tried: std says what it finds, and not what the slice holds after a write.
+    // Stays: a test of the place. `get_mut` was tried: std says what it finds, and not what the slice holds after a
+    // write.
     #[tactic(auto, unfolding(crate::specs::ByLine::gathered_at))]
     pub(crate) fn gather(&mut self, i: usize, tick: Tick)
         ensures { self.new ≡ gathered_at self.old i tick }

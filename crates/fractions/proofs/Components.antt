@@ -1,7 +1,7 @@
 -- The laws of a tariff's parameters.
 use mathlib.Core.Path.{◌≡◌, sym}
 use Prim.Native.Nat.{ℕ, ◌+◌, ◌*◌, ◌/◌, ◌%◌, min, ◌≤◌, ◌<◌}
-use native.Mathlib.Nat.{mod-lt, mul-le-mul_left, mul-le-mul_right, div-lt_iff_lt-mul, mul-zero, div-eq_of_lt, div-eq_of_lt-le, div-add-mod'}
+use native.Mathlib.Nat.{mod-lt, mul-le-mul_left, div-lt_iff_lt-mul, mul-zero, div-eq_of_lt, div-eq_of_lt-le, div-add-mod'}
 use native.Mathlib.Omega.{arith}
 use Rattle.std.proofs.lemmas.Grind.{div_ceil_times}
 use Rattle.fractions.specs.Rounding.{rounded_up}

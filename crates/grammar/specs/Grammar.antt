@@ -1,5 +1,5 @@
 -- The grammar of the texts that controllers send: what a text says, its pieces, and how they are spelled.
-use Rattle.std.specs.Prelude.{ℕ, suc, ◌≤◌, Bool, true, ◌&&◌, List, [], ◌∷◌, ◌++◌, ◌≡◌, leb}
+use Rattle.std.specs.Prelude.{ℕ, suc, ◌≤◌, Bool, true, ◌&&◌, List, [], ◌∷◌, ◌++◌, ◌≡◌, nat_le}
 use Rattle.std.specs.Str.{bytes_eq}
 pub use Rattle.constants.specs.Bytes.{bytes}
 
@@ -76,11 +76,11 @@ same = bytes_eq
 
 -- `a` to `z`
 abbrev pub is_small : ℕ → Bool
-is_small b = leb 97 b && leb b 122
+is_small b = nat_le 97 b && nat_le b 122
 
 -- `0` to `9`
 abbrev pub is_digit : ℕ → Bool
-is_digit b = leb 48 b && leb b 57
+is_digit b = nat_le 48 b && nat_le b 57
 
 pub record Small (b : ℕ) : Type 0 where
   pub test : is_small b ≡ true

@@ -1,6 +1,6 @@
 -- What a text asks for: a descriptor, or nothing where one of the causes applies that are listed here.
-use Rattle.std.specs.Prelude.{ℕ, ◌+◌, ◌*◌, ◌-◌, min, Bool, false, cond, not, ◌||◌, ◌&&◌, List, [], ◌∷◌, ◌++◌, eqb}
-use Rattle.std.specs.Prelude.{ltb, leb}
+use Rattle.std.specs.Prelude.{ℕ, ◌+◌, ◌*◌, ◌-◌, min, Bool, false, if◌then◌else◌, not, ◌||◌, ◌&&◌, List, [], ◌∷◌, ◌++◌, ◌==◌}
+use Rattle.std.specs.Prelude.{nat_lt, nat_le}
 use Prim.Native.String.{String}
 use Rattle.tariff.specs.Tariffs.{em}
 use Rattle.phase_lists.specs.Lists.{Lists, lists_of}
@@ -24,7 +24,7 @@ pub data Known : Type 0 where
 infix 20 ◌↣◌
 abbrev pub slot_in : List Known → List ℕ → ℕ
 slot_in [] w = unknown
-slot_in ((s ↣ k) ∷ ks) w = cond (same w (bytes s)) k (slot_in ks w)
+slot_in ((s ↣ k) ∷ ks) w = if same w (bytes s) then k else slot_in ks w
 
 abbrev pub known_signals : List Known
 known_signals = ("em" ↣ 0) ∷ ("mpb" ↣ 4) ∷ ("phsm" ↣ 8) ∷ []
@@ -41,7 +41,7 @@ phsm_items =
 
 -- the items of the signal that has this slot
 abbrev pub items_of : ℕ → List Known
-items_of s = cond (eqb s 0) em_items (cond (eqb s 4) mpb_items (cond (eqb s 8) phsm_items []))
+items_of s = if s == 0 then em_items else if s == 4 then mpb_items else if s == 8 then phsm_items else []
 
 abbrev pub signal_slot : List ℕ → ℕ
 signal_slot n = slot_in known_signals n
@@ -54,7 +54,7 @@ keep_slot s = min (s + 1) unknown
 
 -- the seven phase lists
 abbrev pub is_list : ℕ → Bool
-is_list s = leb 10 s
+is_list s = nat_le 10 s
 
 -- ---- WHAT A TEXT GIVES: names and their values, in their order
 
@@ -111,7 +111,7 @@ slot_of (given s f vs v) = s
 -- whether a name is given
 abbrev pub has : Row Given → ℕ → Bool
 has none s = false
-has (gs ▹ g) s = eqb s (slot_of g) || has gs s
+has (gs ▹ g) s = s == slot_of g || has gs s
 
 abbrev pub listed : Row ℕ → List ℕ
 listed none = []
@@ -120,12 +120,12 @@ listed (vs ▹ v) = listed vs ++ (v ∷ [])
 -- the values of a name, in order; none if it is not given
 abbrev pub values_of : Row Given → ℕ → List ℕ
 values_of none s = []
-values_of (gs ▹ given k f vs v) s = cond (eqb s k) (listed (vs ▹ v)) (values_of gs s)
+values_of (gs ▹ given k f vs v) s = if s == k then listed (vs ▹ v) else values_of gs s
 
 -- ---- THE CAUSES OF REFUSAL 13
 
 abbrev pub is_unknown : Given → Bool
-is_unknown g = eqb (slot_of g) unknown
+is_unknown g = slot_of g == unknown
 
 abbrev pub is_repeated : Row Given → Given → Bool
 is_repeated before g = has before (slot_of g)
@@ -141,7 +141,7 @@ is_misformed (given s f vs v) = form_is_wrong s f
 
 abbrev pub any_too_large : Row ℕ → Bool
 any_too_large none = false
-any_too_large (vs ▹ v) = any_too_large vs || ltb 4_294_967_295 v
+any_too_large (vs ▹ v) = any_too_large vs || nat_lt 4_294_967_295 v
 
 abbrev pub is_too_large : Given → Bool
 is_too_large (given s f vs v) = any_too_large (vs ▹ v)
@@ -187,11 +187,13 @@ module _ (has : ℕ → Bool) (values : ℕ → List ℕ) where
   tariff_by =
       let pri = first_or 0 (values 2) in
       let pc = first_or 0 (values 3) in
-      cond (has 0) (cond (has 1) (cond (ltb 0 pc) KeepTariff (Rate pri)) (Em (em pc pri)))
-      (cond (has 8) (cond (has 9) KeepTariff Phased) NoTariff)
+      if has 0 then (if has 1 then (if nat_lt 0 pc then KeepTariff else Rate pri) else Em (em pc pri))
+      else if has 8 then (if has 9 then KeepTariff else Phased)
+      else NoTariff
 
   abbrev pub burst_by : BurstPart
-  burst_by = cond (has 4) (cond (has 5) KeepBurst (Start (first_or 1 (values 6)) (first_or 1 (values 7)))) NoBurst
+  burst_by =
+      if has 4 then (if has 5 then KeepBurst else Start (first_or 1 (values 6)) (first_or 1 (values 7))) else NoBurst
 
 abbrev pub lists_by : (ℕ → List ℕ) → Lists
 lists_by values = lists_of (values 10) (values 11) (values 12) (values 13) (values 14) (values 15) (values 16)
@@ -205,8 +207,8 @@ pub data Reading : Type 0 where
 unfoldable pub meaning_of : Text → Reading
 meaning_of t =
     let gs = given_by t in
-    cond (is_senseless gs) senseless
-    (descriptor (tariff_by (has gs) (values_of gs)) (lists_by (values_of gs)) (burst_by (has gs) (values_of gs)))
+    if is_senseless gs then senseless
+    else descriptor (tariff_by (has gs) (values_of gs)) (lists_by (values_of gs)) (burst_by (has gs) (values_of gs))
 
 abbrev pub reading_in : Found → Reading
 reading_in (found t) = meaning_of t

@@ -1,5 +1,5 @@
 -- The reader of the grammar: what has been read so far, piece by piece and byte by byte.
-use Rattle.std.specs.Prelude.{ℕ, suc, cond, List, [], ◌∷◌, ◌++◌, eqb, ltb}
+use Rattle.std.specs.Prelude.{ℕ, suc, if◌then◌else◌, List, [], ◌∷◌, ◌++◌, ◌==◌, nat_lt}
 use Rattle.grammar.specs.Grammar.{Row, none, ◌▹◌, single, list, Item, keep, valued}
 use Rattle.grammar.specs.Grammar.{Signal, bare, braced, Text, empty, signals}
 use Rattle.grammar.specs.Grammar.{Piece, SG, amet/, KA, opens, shuts, from, to, comma, equals, name, number}
@@ -83,7 +83,7 @@ options wrong w = []
 -- the option of a kind
 abbrev pub choose : ℕ → List Option → Read
 choose k [] = wrong
-choose k ((j ⇒ r) ∷ os) = cond (eqb k j) r (choose k os)
+choose k ((j ⇒ r) ∷ os) = if k == j then r else choose k os
 
 -- one piece more
 abbrev pub feed : Read → Piece → Read
@@ -116,20 +116,21 @@ pub data Class : Type 0 where
 
 abbrev pub class_of : ℕ → Class
 class_of b =
-    cond (is_small b) small
-    (cond (is_digit b) digit
-    (cond (eqb b 32) blank
-    (cond (eqb b 123) (mark opens)
-    (cond (eqb b 125) (mark shuts)
-    (cond (eqb b 91) (mark from)
-    (cond (eqb b 93) (mark to)
-    (cond (eqb b 44) (mark comma)
-    (cond (eqb b 61) (mark equals)
-    (cond (eqb b 47) slash
-    (cond (eqb b 83) S
-    (cond (eqb b 71) G
-    (cond (eqb b 75) K
-    (cond (eqb b 65) A other)))))))))))))
+    if is_small b then small
+    else if is_digit b then digit
+    else if b == 32 then blank
+    else if b == 123 then mark opens
+    else if b == 125 then mark shuts
+    else if b == 91 then mark from
+    else if b == 93 then mark to
+    else if b == 44 then mark comma
+    else if b == 61 then mark equals
+    else if b == 47 then slash
+    else if b == 83 then S
+    else if b == 71 then G
+    else if b == 75 then K
+    else if b == 65 then A
+    else other
 
 -- a blank: none may follow the whole text
 abbrev pub spaced : Read → Read
@@ -157,7 +158,7 @@ on_small b (in_ka r) = in_name (b ∷ []) wrong
 on_small b (in_number n w r) = in_name (b ∷ []) (feed r (number w))
 
 abbrev pub on_digit : ℕ → Scan → Scan
-on_digit b (in_number n w r) = cond (ltb n 10) (in_number (suc n) (w ++ (b ∷ [])) r) (gap wrong)
+on_digit b (in_number n w r) = if nat_lt n 10 then in_number (suc n) (w ++ (b ∷ [])) r else gap wrong
 on_digit b fresh = in_number 1 (b ∷ []) nothing
 on_digit b (gap r) = in_number 1 (b ∷ []) r
 on_digit b (in_sg r) = in_number 1 (b ∷ []) wrong
@@ -173,7 +174,7 @@ on_blank (in_name w r) = gap (spaced (feed r (name w)))
 on_blank (in_number n w r) = gap (spaced (feed r (number w)))
 
 abbrev pub on_slash : Scan → Scan
-on_slash (in_name w r) = gap (cond (same w (bytes "amet")) (feed r amet/) wrong)
+on_slash (in_name w r) = gap (if same w (bytes "amet") then feed r amet/ else wrong)
 on_slash fresh = gap wrong
 on_slash (gap r) = gap wrong
 on_slash (in_sg r) = gap wrong

@@ -23,8 +23,8 @@ fn rate_named(row: &mut [Line], places: &[u32], interval: u32)
     }
 }
 
-// Gives the rate command, burst keep, to the lines at the places of a list, each of them once, if all of them accept it.
-// Where the group is refused the row stays as it is.
+// Gives the rate command, burst keep, to the lines at the places of a list, each of them once, if all of them accept
+// it. Where the group is refused the row stays as it is.
 pub fn rate(row: &mut [Line], places: &[u32], interval: u32) -> Verdict
     ensures answer { result ≡ verdict_of row.old places.now interval }
     ensures row_after { row.new ≡ row_of row.old places.now interval }

@@ -7,7 +7,8 @@ ghost use Rattle.line.specs.Lines.{tick_of};
 use answers::Tick;
 use line::Line;
 
-// One tick of a lent line, which is moved on where it is held: only its state is stored, and a quiet line is not copied.
+// One tick of a lent line, which is moved on where it is held: only its state is stored, and a quiet line is not
+// copied.
 pub fn tick_in_place(line: &mut Line) -> Tick
     ensures told { result ≡ (tick_of line.old).tick }
     ensures moved { line.new ≡ (tick_of line.old).line }

@@ -1,5 +1,5 @@
 -- What each command makes of a line and answers: what the code computes.
-use Rattle.std.specs.Prelude.{Bool, cond, List, ℕ, ◌+◌, max, length, Option, None, Some, Result, Ok, Err}
+use Rattle.std.specs.Prelude.{Bool, if◌then◌else◌, List, ℕ, ◌+◌, max, length, Option, None, Some, Result, Ok, Err}
 use Rattle.tariff.specs.Tariffs.{em_of, phased_of, is_endless, schedule_of, timed}
 use Rattle.tariff.specs.declared.Em.{Em as OneEm}
 use Rattle.tariff.specs.declared.Phase.{Phase}
@@ -73,7 +73,7 @@ blank_line = idle_line 0 4294967295 0 0
 
 -- where the configuration is refused, no line is made
 unfoldable pub make_of : ℕ → ℕ → ℕ → Result Line Refusal
-make_of D G clock = cond (sound_configuration D G) (Ok (fresh_line D (D + G) clock)) (Err Configuration)
+make_of D G clock = if sound_configuration D G then Ok (fresh_line D (D + G) clock) else Err Configuration
 
 -- the line that is made, or a blank one where none is
 abbrev pub made_or_blank : Result Line Refusal → Line

@@ -66,7 +66,8 @@ impl Line {
         Line { state, ..self }
     }
 
-    // The answer of an accepted command that leaves this line, with the burst pulses cancelled: it adds 1 to the serial.
+    // The answer of an accepted command that leaves this line, with the burst pulses cancelled: it adds 1 to the
+    // serial.
     pub(crate) fn accepting(self, cancelled: u32) -> Answered
         ensures { result ≡ accepting self cancelled }
     {

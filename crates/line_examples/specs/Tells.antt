@@ -1,5 +1,5 @@
 -- What a tick and a verdict tell, as tests.
-use Rattle.std.specs.Prelude.{Bool, true, false, eqb, ℕ, Ok, Err, Option, None, Some}
+use Rattle.std.specs.Prelude.{Bool, true, false, ◌==◌, ℕ, Ok, Err, Option, None, Some}
 use Rattle.answers.specs.declared.Front.{Front}
 use Rattle.answers.specs.declared.Front.TheVariants.{Tariff, Burst}
 use Rattle.descriptor.specs.Refusals.{refusal_number}
@@ -13,10 +13,10 @@ is_tariff (Some Burst) = false
 
 -- accepted, with so many burst pulses cancelled
 abbrev pub accepts : ℕ → Verdict → Bool
-accepts k (Ok n) = eqb n k
+accepts k (Ok n) = n == k
 accepts k (Err r) = false
 
 -- refused with this number
 abbrev pub refuses : ℕ → Verdict → Bool
 refuses n (Ok k) = false
-refuses n (Err r) = eqb (refusal_number r) n
+refuses n (Err r) = refusal_number r == n

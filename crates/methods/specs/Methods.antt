@@ -1,5 +1,5 @@
 -- What each public method of a line does, in every model of the machine: the step that a list of calls takes.
-use Rattle.std.specs.Prelude.{◌≡◌, false, cond, List, [], ℕ, None, Result, Ok, Err}
+use Rattle.std.specs.Prelude.{◌≡◌, false, if◌then◌else◌, List, [], ℕ, None, Result, Ok, Err}
 use seplogic.Ra.Ura.{Ura}
 use base.Logic.{SProp, emp}
 use prog.Model.{Model}
@@ -54,7 +54,7 @@ module _ {M : Type 1} {𝓤 : Ura M} (𝓛 : Logic 𝓤) (𝓜 : Model 𝓤 𝓛
     -- it answers whether the configuration is taken; the line that it makes, or a blank one, begins the list
     pub make : Does L.make.ended L_code.make.Symbol.name L_code.make.Symbol.code
         (λ _ (given, _) r _.
-        (making_told r ≡ cond (sound_configuration given.pulse given.gap) (accepted 0) (refused 1)) ×
+        (making_told r ≡ (if sound_configuration given.pulse given.gap then accepted 0 else refused 1)) ×
         ((cs : List Call) →
         history given.pulse given.gap given.clock cs ≡ entries (after_calls (past [] (made_or_blank r)) cs)))
     -- where the configuration is refused, a blank line begins the list

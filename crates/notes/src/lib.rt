@@ -11,7 +11,8 @@ mod values;
 use scanner::{Place, Token};
 pub use values::Values;
 
-// Whether a fault was met; the slots of the signal and of the name that is being read; the values of each of the 18 slots.
+// Whether a fault was met; the slots of the signal and of the name that is being read; the values of each of the 18
+// slots.
 #[derive(Drop)]
 pub struct Notes {
     pub bad: bool,

@@ -30,6 +30,7 @@ impl<W: Write> Outlet<W> {
     }
 
     // Writes out what is held back. After a failure, too, nothing is held back any more.
+    // Stays: beside the flush of a writer, which has to keep what is known, and so holds back what was not written.
     pub fn flush(&mut self) -> io::Result<()>
         ensures sent { OnOk result (Appends (W.contents self.old.to) (W.contents self.new.to) self.old.held.items) }
         ensures empty { self.new.held.items ≡ [] }

@@ -1,5 +1,5 @@
 -- The seven phase lists of a descriptor, the phases that they hold, and whether they are sound.
-use Rattle.std.specs.Prelude.{Bool, ◌&&◌, List, [], ◌∷◌, ◌++◌, ℕ, zero, suc, eqb, length, get_or, take}
+use Rattle.std.specs.Prelude.{Bool, ◌&&◌, List, [], ◌∷◌, ◌++◌, ℕ, zero, suc, ◌==◌, length, get_or, take}
 use Rattle.tariff.specs.Ranges.{within}
 use Rattle.tariff.specs.declared.Phase.{Phase}
 use Rattle.phase_lists.specs.declared.PhaseLists.{PhaseLists}
@@ -48,9 +48,9 @@ no_lists = record { pri = []; pcx = []; repx = []; pcn = []; repn = []; ci = [];
 -- the other six lists are as long as the first
 abbrev pub one_length : Lists → Bool
 one_length ls =
-    eqb (length ls.pcx) (length ls.pri) && (eqb (length ls.repx) (length ls.pri)
-    && (eqb (length ls.pcn) (length ls.pri) && (eqb (length ls.repn) (length ls.pri)
-    && (eqb (length ls.ci) (length ls.pri) && eqb (length ls.pd) (length ls.pri)))))
+    length ls.pcx == length ls.pri && (length ls.repx == length ls.pri
+    && (length ls.pcn == length ls.pri && (length ls.repn == length ls.pri
+    && (length ls.ci == length ls.pri && length ls.pd == length ls.pri))))
 
 -- seven lists of one length, 1 to 8
 unfoldable pub sound_lists : Lists → Bool

@@ -1,5 +1,5 @@
 -- The phases of a descriptor, read and met in one pass.
-use Rattle.std.specs.Prelude.{cond, List, ◌++◌, ℕ, ◌-◌, min, length, replicate}
+use Rattle.std.specs.Prelude.{if◌then◌else◌, List, ◌++◌, ℕ, ◌-◌, min, length, replicate}
 use Rattle.tariff.specs.Tariffs.{no_phase, schedule_of}
 use Rattle.tariff.specs.declared.Phase.{Phase}
 use Rattle.tariff.specs.declared.Schedule.{Schedule}
@@ -23,7 +23,7 @@ schedule_in t = schedule_of t.phases t.carry.count
 
 -- how many phases there are to meet: none where the lengths differ
 unfoldable pub phase_count : Lists → ℕ
-phase_count ls = cond (one_length ls) (length ls.pri) 0
+phase_count ls = if one_length ls then length ls.pri else 0
 
 -- on a line of spacing S: what the phases of seven lists leave to carry, and the first eight of them
 unfoldable pub table_of : ℕ → Lists → PhaseTable

@@ -1,6 +1,6 @@
 -- The text that `meter` and `card` print.
-use Rattle.std.specs.Prelude.{Bool, true, false, cond, List, [], ◌∷◌, ◌++◌, ℕ, zero, suc, ◌+◌, ◌/◌, ◌%◌}
-use Rattle.std.specs.Prelude.{Option, None, Some, ltb}
+use Rattle.std.specs.Prelude.{Bool, true, false, if◌then◌else◌, List, [], ◌∷◌, ◌++◌, ℕ, zero, suc, ◌+◌, ◌/◌, ◌%◌}
+use Rattle.std.specs.Prelude.{Option, None, Some, nat_lt}
 use Prim.Native.String.{String, ◌++◌ as ◌&◌}
 use Rattle.answers.specs.declared.Front.{Front}
 use Rattle.answers.specs.declared.Front.TheVariants.{Tariff, Burst}
@@ -16,7 +16,7 @@ digit d = 48 + d
 -- the decimal digits of a number of at most k digits, with no zero in front
 abbrev pub digits_in : ℕ → ℕ → List ℕ
 digits_in zero n = []
-digits_in (suc k) n = cond (ltb n 10) (digit n ∷ []) (digits_in k (n / 10) ++ (digit (n % 10) ∷ []))
+digits_in (suc k) n = if nat_lt n 10 then digit n ∷ [] else digits_in k (n / 10) ++ (digit (n % 10) ∷ [])
 
 -- the decimal digits of a number of 32 bits
 unfoldable pub digits_of : ℕ → List ℕ
@@ -30,7 +30,7 @@ answer_text Bad = bytes "bad\n"
 
 -- a line that is printed only where it is told
 abbrev pub when : Bool → List ℕ → List ℕ
-when b text = cond b text []
+when b text = if b then text else []
 
 -- b stands for the tariff, and m for the burst
 abbrev pub tariff_letter : String

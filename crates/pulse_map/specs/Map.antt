@@ -1,5 +1,5 @@
 -- The pulse map of repx entries X and repn entries N.
-use Rattle.std.specs.Prelude.{cond, List, [], ◌∷◌, ◌++◌, ℕ, zero, suc, ◌+◌, ◌-◌, ◌/◌, min, leb, replicate}
+use Rattle.std.specs.Prelude.{if◌then◌else◌, List, [], ◌∷◌, ◌++◌, ℕ, zero, suc, ◌+◌, ◌-◌, ◌/◌, min, nat_le, replicate}
 use Rattle.fractions.specs.Rounding.{rounded_half_up}
 
 -- an interval with an entry X has pcx pulses, one with an entry N has pcn
@@ -23,9 +23,8 @@ unfoldable pub map_of : ℕ → ℕ → List Entry
 map_of repx zero = replicate repx X
 map_of zero (suc n) = replicate (suc n) N
 map_of (suc x) (suc n) =
-    cond (leb (suc n) (suc x))
-    (x_groups (rounded_half_up (suc x) (suc n)) (suc x) (suc n))
-    (n_groups (suc n / suc x) (suc x) (suc n))
+    if nat_le (suc n) (suc x) then x_groups (rounded_half_up (suc x) (suc n)) (suc x) (suc n)
+    else n_groups (suc n / suc x) (suc x) (suc n)
 
 -- 1 for X
 abbrev pub bit_of : Entry → ℕ

@@ -1,5 +1,5 @@
 -- What a list of phases leaves to carry: its phases are met one by one, in list order.
-use Rattle.std.specs.Prelude.{true, false, not, ◌&&◌, ℕ, ◌+◌, min, eqb}
+use Rattle.std.specs.Prelude.{true, false, not, ◌&&◌, ℕ, ◌+◌, min, ◌==◌}
 use mathlib.Core.List.{List, foldl}
 use Rattle.tariff.specs.declared.Phase.{Phase}
 use Rattle.rules.specs.Rules.{sound_phase}
@@ -15,7 +15,7 @@ met_by S c p =
     record {
       count = min (c.count + 1) 9;
       sound = c.sound && not c.endless && sound_phase S p;
-      endless = eqb p.pd 0;
+      endless = p.pd == 0;
     }
 
 unfoldable pub carried : ℕ → List Phase → Carry

@@ -1,6 +1,6 @@
 -- The slots of a tariff: in ticks from its origin, and at each tick while it runs. "Slots" of the paper.
-use Rattle.std.specs.Prelude.{Bool, true, false, cond, not, ◌&&◌, ◌||◌, List, [], ◌∷◌, ℕ, zero, suc, ◌+◌, ◌-◌, ◌*◌}
-use Rattle.std.specs.Prelude.{◌/◌, ◌%◌, leb, ltb, eqb, Option, None, Some}
+use Rattle.std.specs.Prelude.{Bool, true, false, if◌then◌else◌, not, ◌&&◌, ◌||◌, List, [], ◌∷◌, ℕ, zero, suc, ◌+◌, ◌-◌, ◌*◌}
+use Rattle.std.specs.Prelude.{◌/◌, ◌%◌, nat_le, nat_lt, ◌==◌, Option, None, Some}
 use Rattle.pulse_map.specs.Pulses.{pulses_of, entry_of}
 use Rattle.tariff.specs.declared.Phase.{Phase}
 use Rattle.tariff.specs.declared.Slot.{Slot}
@@ -13,16 +13,16 @@ any_below (suc n) test = test n || any_below n test
 
 -- em with C = 0: slots at 0, P, and so on
 unfoldable pub endless_slot : ℕ → ℕ → Option Slot
-endless_slot P x = cond (eqb (x % P) 0) (Some Pulse) None
+endless_slot P x = if x % P == 0 then Some Pulse else None
 
 -- em with C > 0: slot k (0 to C − 1) at k × P/C, rounded down
 unfoldable pub counted_slot : ℕ → ℕ → ℕ → Option Slot
-counted_slot C P x = cond (any_below C (λ k. eqb (k * P / C) x)) (Some Pulse) None
+counted_slot C P x = if any_below C (λ k. k * P / C == x) then Some Pulse else None
 
 -- a charge interval of m pulses: slots at j × pri, j below m; with m = 0 the start is an empty slot
 unfoldable pub interval_slot : ℕ → ℕ → ℕ → Option Slot
-interval_slot zero pri z = cond (eqb z 0) (Some Empty) None
-interval_slot (suc m) pri z = cond (any_below (suc m) (λ j. eqb (j * pri) z)) (Some Pulse) None
+interval_slot zero pri z = if z == 0 then Some Empty else None
+interval_slot (suc m) pri z = if any_below (suc m) (λ j. j * pri == z) then Some Pulse else None
 
 -- the pulses of interval i of a phase: pcx for X and pcn for N, by map entry i mod (repx + repn)
 unfoldable pub interval_pulses : Phase → ℕ → ℕ
@@ -35,12 +35,12 @@ phase_slot p x = interval_slot (interval_pulses p (x / (1000 * p.ci))) p.pri (x 
 -- phases follow each other, each pd seconds; pd = 0 is endless
 unfoldable pub phased_slot : List Phase → ℕ → Option Slot
 phased_slot [] x = None
-phased_slot (p ∷ ps) x = cond (eqb p.pd 0 || ltb x (1000 * p.pd)) (phase_slot p x) (phased_slot ps (x - 1000 * p.pd))
+phased_slot (p ∷ ps) x = if p.pd == 0 || nat_lt x (1000 * p.pd) then phase_slot p x else phased_slot ps (x - 1000 * p.pd)
 
 -- whether phases never end, and the seconds that they take if they do
 unfoldable pub never_end : List Phase → Bool
 never_end [] = false
-never_end (p ∷ ps) = eqb p.pd 0 || never_end ps
+never_end (p ∷ ps) = p.pd == 0 || never_end ps
 
 unfoldable pub seconds : List Phase → ℕ
 seconds [] = 0
@@ -63,7 +63,7 @@ runs_endless r = elim r [ nothing ↦ false | endless f P ↦ true | counted f C
 
 -- slots that begin at tick f
 abbrev pub from : ℕ → (ℕ → Option Slot) → ℕ → Option Slot
-from f slots t = cond (leb f t) (slots (t - f)) None
+from f slots t = if nat_le f t then slots (t - f) else None
 
 -- what a tariff has at tick t
 unfoldable pub slot_at : Running → ℕ → Option Slot
@@ -84,12 +84,12 @@ quiet_for r t (suc n) = no_slot (slot_at r (t + 1)) && quiet_for r (t + 1) n
 unfoldable pub completes_at : ℕ → Running → ℕ → Bool
 completes_at D nothing t = false
 completes_at D (endless f P) t = false
-completes_at D (counted f C P) t = eqb t (f + (C - 1) * P / C + D)
-completes_at D (phased f ps) t = not (never_end ps) && eqb t (f + 1000 * seconds ps)
+completes_at D (counted f C P) t = t == f + (C - 1) * P / C + D
+completes_at D (phased f ps) t = not (never_end ps) && t == f + 1000 * seconds ps
 
 -- the first slot of an endless em past tick c
 abbrev pub first_past : ℕ → ℕ → ℕ → ℕ
-first_past f P c = cond (ltb c f) f (f + ((c - f) / P + 1) * P)
+first_past f P c = if nat_lt c f then f else f + ((c - f) / P + 1) * P
 
 -- a rate accepted after tick c keeps the first slot past c, and the later ones follow it P apart
 unfoldable pub rated : Running → ℕ → ℕ → Running

@@ -25,8 +25,8 @@ pub struct Count {
     pub report: bool,
 }
 
-// All that a tick changes: the tariff, the clock, the ticks since the last front, held at the spacing, the burst, if one
-// runs, and the counters.
+// All that a tick changes: the tariff, the clock, the ticks since the last front, held at the spacing, the burst, if
+// one runs, and the counters.
 #[derive(Clone, Copy, PartialEq, Eq, Debug)]
 pub struct State {
     pub timed: Timed,
@@ -36,8 +36,8 @@ pub struct State {
     pub counters: Counters,
 }
 
-// The state after a tick, what the tick tells, and whether anything happened at it: a slot, an empty one too, a front, a
-// completion, or the end of a pulse.
+// The state after a tick, what the tick tells, and whether anything happened at it: a slot, an empty one too, a front,
+// a completion, or the end of a pulse.
 #[derive(Clone, Copy, PartialEq, Eq, Debug)]
 pub struct Moved {
     pub state: State,

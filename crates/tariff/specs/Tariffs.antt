@@ -1,5 +1,5 @@
 -- A tariff where it stands, and the tariffs that a descriptor sets: what the code computes.
-use Rattle.std.specs.Prelude.{Bool, true, false, cond, List, ℕ, zero, suc, leb, ltb, get_or}
+use Rattle.std.specs.Prelude.{Bool, true, false, if◌then◌else◌, List, ℕ, zero, suc, nat_le, nat_lt, get_or}
 use Rattle.tariff.specs.declared.Em.{Em}
 use Rattle.tariff.specs.declared.Phase.{Phase}
 use Rattle.tariff.specs.declared.Position.{Position}
@@ -14,7 +14,7 @@ no_phase = record { pri = 0; pcx = 0; repx = 0; pcn = 0; repn = 0; ci = 0; pd = 
 
 -- the phase at a place of the array of eight
 abbrev pub phase_at : List Phase → ℕ → Phase
-phase_at ps i = cond (ltb i 8) (get_or ps i no_phase) no_phase
+phase_at ps i = if nat_lt i 8 then get_or ps i no_phase else no_phase
 
 -- so many phases, at the front of the array of eight
 abbrev pub schedule_of : List Phase → ℕ → Schedule
@@ -42,7 +42,7 @@ slot_left t = elim t [ Idle ↦ false | Endless P ↦ true | Counted m k ↦ tru
 
 -- the next slot is S ticks away or more, if one is left
 abbrev pub room_of : ℕ → Timed → Bool
-room_of S x = cond (slot_left x.tariff) (leb S x.wait) true
+room_of S x = if slot_left x.tariff then nat_le S x.wait else true
 
 -- a fresh em and a fresh phased tariff
 unfoldable pub em_of : ℕ → ℕ → Tariff

@@ -1,5 +1,5 @@
 -- What a tick begins: a rule that the paper gives in two sentences.
-use Rattle.std.specs.Prelude.{Bool, cond, Option, None, Some}
+use Rattle.std.specs.Prelude.{Bool, if◌then◌else◌, Option, None, Some}
 use Rattle.answers.specs.declared.Front.{Front}
 use Rattle.answers.specs.declared.Front.TheVariants.{Tariff, Burst}
 use Rattle.tariff.specs.declared.Slot.{Slot}
@@ -7,6 +7,6 @@ use Rattle.tariff.specs.declared.Slot.TheVariants.{Empty, Pulse}
 
 -- a slot due now starts its pulse, or nothing if it is empty; where no slot is due, a burst pulse may start
 abbrev pub front_at : Option Slot → Bool → Option Front
-front_at None burst = cond burst (Some Burst) None
+front_at None burst = if burst then Some Burst else None
 front_at (Some Empty) burst = None
 front_at (Some Pulse) burst = Some Tariff
