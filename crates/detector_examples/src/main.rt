@@ -76,11 +76,11 @@ fn intervals(rt: &impl Print, d: Detector) -> io::Result<Detector> {
 fn silences(rt: &impl Print, d: Detector) -> io::Result<Detector> {
     // audit 16 5 0: no event before "e = lri + rit", 16 + 3
     let d = audit(rt, silence(rt, d, 18)?)?;
-    // event 0 0, audit 0 5 0: "A tick without a pulse where lri > 0 and e = lri + rit gives event (0, pcslr) and lri
-    // 0."
+    // event 0 0, audit 0 5 0: "A tick without a pulse where lri > 0 and e = lri + rit gives event (0, pcslr) and
+    // lri 0."
     let d = audit(rt, silence(rt, d, 1)?)?;
-    // event 25 1, audit 25 6 0: "at lri 0, event (e, pcslr) and lri = e"; "e is the ticks from the last pulse to this
-    // tick"
+    // event 25 1, audit 25 6 0: "at lri 0, event (e, pcslr) and lri = e"; "e is the ticks from the last pulse to
+    // this tick"
     audit(rt, pulse_after(rt, d, 5)?)
 }
 
