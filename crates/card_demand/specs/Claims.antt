@@ -1,5 +1,6 @@
 -- R-4 to R-6: one claim about the history of every list of calls on a card of fresh lines with a fresh dispatcher.
-use Rattle.std.specs.Prelude.{◌≡◌, true, false, if◌then◌else◌, List, [], ◌∷◌, ◌++◌, ℕ, ◌+◌, ◌^◌, min, ◌≤◌, ◌<◌, length, get_or}
+use Rattle.std.specs.Prelude.{◌≡◌, true, false, if◌then◌else◌, List, [], ◌∷◌, ◌++◌, ℕ, ◌+◌, ◌^◌, min, ◌≤◌, ◌<◌}
+use Rattle.std.specs.Prelude.{length, get_or}
 use Rattle.std.specs.Prelude.{Option, Some}
 use Rattle.descriptor.specs.Refusals.{sound_configuration}
 use Rattle.dispatcher.specs.Dispatch.{tells, notice, bad_row, wrong_row, sent_of, turn_of, waits_in}

@@ -1,6 +1,7 @@
 -- What the contracts of dispatcher and group compute of a lent row is the step of the card, and so is what a call makes
 -- of a line.
-use Rattle.std.specs.Prelude.{◌≡◌, if◌then◌else◌, List, [], ◌++◌, map, ℕ, length, get_or, set, take, drop, Ok, Err, is_ok}
+use Rattle.std.specs.Prelude.{◌≡◌, if◌then◌else◌, List, [], ◌++◌, map, ℕ, length, get_or, set, take, drop, Ok, Err}
+use Rattle.std.specs.Prelude.{is_ok}
 use Rattle.std.specs.Prelude.{if◌then◌else◌}
 use Rattle.descriptor.specs.Refusals.{refusal_number}
 use Rattle.line.specs.Lines.{Verdict, blank_line}

@@ -1,5 +1,6 @@
 -- Demand 3: one claim about the history of every list of calls.
-use Rattle.std.specs.Prelude.{◌≡◌, true, if◌then◌else◌, ◌↔◌, List, [], ◌∷◌, ◌++◌, ℕ, ◌+◌, ◌-◌, ◌*◌, ◌%◌, ◌^◌, min, max, ◌≤◌}
+use Rattle.std.specs.Prelude.{◌≡◌, true, if◌then◌else◌, ◌↔◌, List, [], ◌∷◌, ◌++◌, ℕ, ◌+◌, ◌-◌, ◌*◌, ◌%◌, ◌^◌, min}
+use Rattle.std.specs.Prelude.{max, ◌≤◌}
 use Rattle.std.specs.Prelude.{nat_lt, Some}
 use Rattle.demand.specs.Names.{TariffFront, BurstFront, Pulse, Stop, NoBurst, KeepBurst, Start}
 use Rattle.demand.specs.Names.{TariffPart, NoTariff, KeepTariff, Rate, Em, Phased, is_front, slot_at}

@@ -1,5 +1,6 @@
 -- Room for more bytes in a buffer, and the bytes that come.
-use Rattle.std.specs.Prelude.{Bool, if◌then◌else◌, ◌&&◌, ◌||◌, List, ◌++◌, ℕ, ◌+◌, ◌-◌, ◌/◌, min, nat_lt, nat_le, length, drop}
+use Rattle.std.specs.Prelude.{Bool, if◌then◌else◌, ◌&&◌, ◌||◌, List, ◌++◌, ℕ, ◌+◌, ◌-◌, ◌/◌, min, nat_lt, nat_le}
+use Rattle.std.specs.Prelude.{length, drop}
 use Rattle.lines.specs.declared.progress.Progress.{Progress}
 use Rattle.lines.specs.Spans.{at_front, held}
 use Rattle.lines.specs.Squeezing.{squeezed}

@@ -1,5 +1,6 @@
 -- The slots of a tariff: in ticks from its origin, and at each tick while it runs. "Slots" of the paper.
-use Rattle.std.specs.Prelude.{Bool, true, false, if◌then◌else◌, not, ◌&&◌, ◌||◌, List, [], ◌∷◌, ℕ, zero, suc, ◌+◌, ◌-◌, ◌*◌}
+use Rattle.std.specs.Prelude.{Bool, true, false, if◌then◌else◌, not, ◌&&◌, ◌||◌, List, [], ◌∷◌, ℕ, zero, suc, ◌+◌}
+use Rattle.std.specs.Prelude.{◌-◌, ◌*◌}
 use Rattle.std.specs.Prelude.{◌/◌, ◌%◌, nat_le, nat_lt, ◌==◌, Option, None, Some}
 use Rattle.pulse_map.specs.Pulses.{pulses_of, entry_of}
 use Rattle.tariff.specs.declared.Phase.{Phase}
@@ -35,7 +36,9 @@ phase_slot p x = interval_slot (interval_pulses p (x / (1000 * p.ci))) p.pri (x 
 -- phases follow each other, each pd seconds; pd = 0 is endless
 unfoldable pub phased_slot : List Phase → ℕ → Option Slot
 phased_slot [] x = None
-phased_slot (p ∷ ps) x = if p.pd == 0 || nat_lt x (1000 * p.pd) then phase_slot p x else phased_slot ps (x - 1000 * p.pd)
+phased_slot (p ∷ ps) x =
+    if p.pd == 0 || nat_lt x (1000 * p.pd) then phase_slot p x
+    else phased_slot ps (x - 1000 * p.pd)
 
 -- whether phases never end, and the seconds that they take if they do
 unfoldable pub never_end : List Phase → Bool

@@ -1,5 +1,6 @@
 -- What the code makes of the state of a line: its parts, its counters, and a tick at which nothing happens.
-use Rattle.std.specs.Prelude.{ℕ, ◌+◌, ◌-◌, ◌%◌, ◌^◌, max, Bool, true, false, if◌then◌else◌, not, ◌&&◌, ◌||◌, nat_le, nat_lt}
+use Rattle.std.specs.Prelude.{ℕ, ◌+◌, ◌-◌, ◌%◌, ◌^◌, max, Bool, true, false, if◌then◌else◌, not, ◌&&◌, ◌||◌, nat_le}
+use Rattle.std.specs.Prelude.{nat_lt}
 use Rattle.std.specs.Prelude.{Option}
 use Rattle.std.specs.Option.{option_map}
 use Rattle.answers.specs.Fronts.{if_front}
@@ -46,8 +47,8 @@ zero_counters rp = record { cpc = 0; pcslr = 0; rp = rp }
 -- a front adds 1 to both counters, and may give a report
 unfoldable pub count_of : Counters → Count
 count_of n =
-    if report_due n.rp (one_more n.pcslr) then
-        record { counters = record { cpc = one_more n.cpc; pcslr = 0; rp = n.rp }; report = true }
+    if report_due n.rp (one_more n.pcslr)
+    then record { counters = record { cpc = one_more n.cpc; pcslr = 0; rp = n.rp }; report = true }
     else record { counters = record { cpc = one_more n.cpc; pcslr = one_more n.pcslr; rp = n.rp }; report = false }
 
 -- after a tick with this front or none

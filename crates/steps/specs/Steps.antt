@@ -1,5 +1,6 @@
 -- A tariff one tick on: what the code computes.
-use Rattle.std.specs.Prelude.{Bool, true, false, if◌then◌else◌, ◌||◌, ℕ, ◌+◌, ◌-◌, ◌*◌, ◌/◌, nat_lt, ◌==◌, Option, None, Some}
+use Rattle.std.specs.Prelude.{Bool, true, false, if◌then◌else◌, ◌||◌, ℕ, ◌+◌, ◌-◌, ◌*◌, ◌/◌, nat_lt, ◌==◌, Option}
+use Rattle.std.specs.Prelude.{None, Some}
 use Rattle.fractions.specs.Answers.{Result, refused, given}
 use Rattle.pulse_map.specs.Pulses.{pulses_of}
 use Rattle.pulse_map.specs.Map.{Entry}
@@ -50,8 +51,8 @@ after_phase ps i w =
 -- after the last slot of an interval of a phase, which is p: the next interval of the phase, if there is one
 unfoldable pub after_interval : Schedule → Position → Phase → Timed
 after_interval ps q p =
-    if q.left == 0 || nat_lt p.ci q.left then
-        timed (Phased (position q.phase (next_entry p q.entry) (q.left - p.ci) 0)) (1000 * p.ci - q.slot * p.pri)
+    if q.left == 0 || nat_lt p.ci q.left
+    then timed (Phased (position q.phase (next_entry p q.entry) (q.left - p.ci) 0)) (1000 * p.ci - q.slot * p.pri)
     else after_phase ps q.phase (1000 * q.left - q.slot * p.pri)
 
 -- after a slot of an interval of m pulses
