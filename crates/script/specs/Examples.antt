@@ -22,7 +22,11 @@ line_of s = command_of (bytes s)
 -- the input of the paper's example
 pub input :
     map line_of ("cfg 50 50 0" ∷ "rp 3" ∷ "sig em 0 400 burst 2 1" ∷ "run 401" ∷ [])
-    ≡ Some (Configure (configuration 50 50 0)) ∷ Some (Period 3) ∷ Some (Describe (Em (em 0 400)) 0 (Start 2 1)) ∷ Some (Run 401) ∷ []
+    ≡ Some (Configure (configuration 50 50 0))
+    ∷ Some (Period 3)
+    ∷ Some (Describe (Em (em 0 400)) 0 (Start 2 1))
+    ∷ Some (Run 401)
+    ∷ []
 unfolding words_of
 input = refl
 
