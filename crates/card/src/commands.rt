@@ -42,7 +42,7 @@ impl Card {
                 self.give(target, line, none.descriptor(tariff, burst), out)
             }
             Command::OnHook(event) => self.answered(place, line.hook(event), out),
-            Command::Configure { .. } | Command::Run(_) => put_answer(out, Answer::Bad),
+            Command::Configure(_) | Command::Run(_) => put_answer(out, Answer::Bad),
         }
     }
 
