@@ -39,7 +39,7 @@ impl Card {
     // The line at a place of the row, if there is one.
     pub(crate) fn line_at(&mut self, place: u32) -> Option<&mut Line> {
         let place = usize::try_from(place).ok()?;
-        self.lines.as_mut_slice().get_mut(place)
+        self.lines.get_mut(place)
     }
 
     // One more line at the end of the row, if there is room. A refused configuration adds none.
