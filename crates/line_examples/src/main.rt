@@ -42,7 +42,7 @@ fn ask(line: Line, tariff: TariffPart, burst: BurstPart) -> line::Answered
     })
 }
 
-#[tactic(auto, unfolding(burst::specs::Bursts::aged_of, ticking::specs::Moves::burst_after, line::specs::Lines::burst_changed, burst::specs::Bursts::completes_of, state::specs::States::count_by, state::specs::States::count_of, line::specs::Lines::describe_of, rules::specs::Rules::distance_of, steps::specs::Steps::due_of, tariff::specs::Tariffs::em_of, line::specs::Lines::fresh_line, line::specs::Lines::hook_of, line::specs::Lines::make_of, ticking::specs::Moves::moved_by, descriptor::specs::Refusals::ruling, ticking::specs::Moves::since_front, rules::specs::Rules::sound_em, steps::specs::Steps::step_of, line::specs::Lines::tariff_changed, line::specs::Lines::tick_of))]
+#[tactic(auto, unfolding(burst::specs::Bursts::aged_of, ticking::specs::Moves::burst_after, line::specs::Lines::burst_changed, burst::specs::Bursts::completes_of, line::specs::Lines::describe_of, rules::specs::Rules::distance_of, steps::specs::Steps::due_of, tariff::specs::Tariffs::em_of, line::specs::Lines::fresh_line, line::specs::Lines::hook_of, line::specs::Lines::make_of, ticking::specs::Moves::moved_by, descriptor::specs::Refusals::ruling, rules::specs::Rules::sound_em, steps::specs::Steps::step_of, line::specs::Lines::tariff_changed, line::specs::Lines::tick_of))]
 fn main() {
     let given = Configuration {
         pulse: 50,
