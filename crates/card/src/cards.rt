@@ -1,21 +1,20 @@
 // A card: its row of lines, what each of them answers, and what is printed of it.
 use super::pending::Pending;
-use descriptor::Descriptor;
+use arrayvec::ArrayVec;
+use descriptor::{Configuration, Descriptor};
 use dispatcher::Dispatcher;
 use line::{Answered, Asked, Line};
 use outlet::Outlet;
 use printing::{Answer, answer_text, asked_text};
-use script::Giving;
+use script::{Giving, Target};
 use std::io;
 use std::io::{Stdout, Write};
 
-// A card: room for its lines, how many there are, the number of ticks so far, held at the largest number, the
-// dispatcher, and the descriptor that waits for phase lines, if one does.
-// Stays: fixed memory. An ArrayVec was tried, and is emptied only where its items have a default, which no line is.
+// A card: its row of lines, the number of ticks so far, held at the largest number, the dispatcher, and the descriptor
+// that waits for phase lines, if one does.
 #[derive(Drop)]
 pub struct Card {
-    pub lines: [Line; 65],
-    pub count: usize,
+    pub lines: ArrayVec<Line, 65>,
     pub ticks: u32,
     pub dispatcher: Dispatcher,
     pub pending: Option<Pending>,
@@ -30,43 +29,33 @@ pub(crate) fn put_answer(out: &mut Outlet<Stdout>, answer: Answer) -> io::Result
 impl Card {
     pub(crate) fn new() -> Card {
         Card {
-            lines: [Line::make(0, 0, 0).line; 65],
-            count: 0,
+            lines: ArrayVec::new(),
             ticks: 0,
             dispatcher: Dispatcher::new(),
             pending: None,
         }
     }
 
-    // The row: the lines that there are.
-    pub(crate) fn row(&mut self) -> &mut [Line] {
-        let count = self.count.min(65);
-        &mut self.lines[..count]
-    }
-
     // The line at a place of the row, if there is one.
     pub(crate) fn line_at(&mut self, place: u32) -> Option<&mut Line> {
         let place = usize::try_from(place).ok()?;
-        self.row().get_mut(place)
+        self.lines.get_mut(place)
     }
 
     // One more line at the end of the row, if there is room. A refused configuration adds none.
     pub(crate) fn configure(
         &mut self,
-        pulse: u32,
-        gap: u32,
-        clock: u32,
+        given: Configuration,
         out: &mut Outlet<Stdout>,
     ) -> io::Result<()> {
-        if self.count >= 65 {
+        if self.lines.is_full() {
             return put_answer(out, Answer::Bad);
         }
-        let made = Line::make(pulse, gap, clock);
-        if made.verdict.is_ok() {
-            self.lines[self.count] = made.line;
-            self.count += 1;
+        let made = Line::make(given);
+        if let Ok(line) = made {
+            self.lines.push(line);
         }
-        put_answer(out, Answer::from(made.verdict))
+        put_answer(out, Answer::from(made.map(|_| 0)))
     }
 
     // Takes the line that a command at a place handed back, and puts its answer.
@@ -82,16 +71,16 @@ impl Card {
         put_answer(out, Answer::from(answer.verdict))
     }
 
-    // Gives a descriptor to the line at a place: it is taken, asked only, which leaves the line as it was, or committed.
+    // Gives a descriptor to its line: it is taken, asked only, which leaves the line as it was, or committed.
     pub(crate) fn give(
         &mut self,
-        place: u32,
+        target: Target,
         line: Line,
-        giving: Giving,
         given: Descriptor,
         out: &mut Outlet<Stdout>,
     ) -> io::Result<()> {
-        match giving {
+        let place = target.place;
+        match target.giving {
             Giving::Take => self.answered(place, line.describe(given), out),
             Giving::Ask => put_asked(out, line.ask(given)),
             Giving::Commit(ticket) => self.answered(place, line.commit(ticket, given), out),

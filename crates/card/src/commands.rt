@@ -7,7 +7,7 @@ use outlet::Outlet;
 use phase_lines::{Phases, Waiting};
 use printing::{Answer, counters_text};
 use programs::Program;
-use script::{CardCommand, Command, Giving};
+use script::{CardCommand, Command, Target};
 use std::io;
 use std::io::{Stdout, Write};
 
@@ -17,82 +17,70 @@ fn put_counters(out: &mut Outlet<Stdout>, audit: Audited) -> io::Result<()> {
 }
 
 impl Card {
-    // Obeys a command on the line at a place. A descriptor may wait for phase lines first.
-    // Stays: arms as in meter, which has no place and no way of giving; a shared function needs a contract for them.
+    // Obeys a command on its line. A descriptor may wait for phase lines first.
+    // Stays: arms as in meter, where a command has no target; a shared function needs a contract for it.
     fn on(
         &mut self,
-        place: u32,
+        target: Target,
         line: Line,
-        giving: Giving,
         command: Command,
         out: &mut Outlet<Stdout>,
     ) -> io::Result<()> {
+        let place = target.place;
         match command {
             Command::Period(rp) => self.answered(place, line.set_period(rp), out),
             Command::NoPeriod => self.answered(place, line.clear_period(), out),
             Command::Describe { phases, burst, .. } if phases > 0 => {
                 self.pending = Some(Pending {
-                    place,
-                    giving,
+                    target,
                     waiting: Waiting::new(phases, burst),
                 });
                 Ok(())
             }
             Command::Describe { tariff, burst, .. } => {
                 let none = Phases::new();
-                self.give(place, line, giving, none.descriptor(tariff, burst), out)
+                self.give(target, line, none.descriptor(tariff, burst), out)
             }
             Command::OnHook(event) => self.answered(place, line.hook(event), out),
-            Command::Configure { .. } | Command::Run(_) => put_answer(out, Answer::Bad),
+            Command::Configure(_) | Command::Run(_) => put_answer(out, Answer::Bad),
         }
     }
 
     // Obeys a command. One at a place outside the row is bad.
     fn obey(&mut self, command: CardCommand, out: &mut Outlet<Stdout>) -> io::Result<()> {
         match command {
-            CardCommand::Configure { pulse, gap, clock } => self.configure(pulse, gap, clock, out),
+            CardCommand::Configure(given) => self.configure(given, out),
             CardCommand::Tick(n) => self.run(n, out),
             CardCommand::Group { interval, places } => {
-                let verdict = group::rate(self.row(), places.as_slice(), interval);
+                let row = self.lines.as_mut_slice();
+                let verdict = group::rate(row, places.as_slice(), interval);
                 put_answer(out, Answer::from(verdict))
             }
-            CardCommand::On {
-                place,
-                giving,
-                command,
-            } => match self.line_at(place).copied() {
-                Some(line) => self.on(place, line, giving, command, out),
+            CardCommand::On { target, command } => match self.line_at(target.place).copied() {
+                Some(line) => self.on(target, line, command, out),
                 None => put_answer(out, Answer::Bad),
             },
             CardCommand::Audit(place) => match self.line_at(place) {
                 Some(line) => put_counters(out, line.audit()),
                 None => put_answer(out, Answer::Bad),
             },
-            CardCommand::Text {
-                place,
-                giving,
-                text,
-            } => match self.line_at(place).copied() {
-                Some(line) => self.give(place, line, giving, Descriptor::Text(text), out),
+            CardCommand::Text { target, text } => match self.line_at(target.place).copied() {
+                Some(line) => self.give(target, line, Descriptor::Text(text), out),
                 None => put_answer(out, Answer::Bad),
             },
         }
     }
 
     // Obeys a descriptor that waits, once its phase lines have come.
-    // Stays: steps as in meter, where no place and no way of giving stand beside what waits.
+    // Stays: steps as in meter, where no target stands beside what waits.
     fn gather(&mut self, pending: Pending, out: &mut Outlet<Stdout>) -> io::Result<()> {
         if pending.waiting.missing > 0 {
             self.pending = Some(pending);
             return Ok(());
         }
-        let Pending {
-            place,
-            giving,
-            waiting,
-        } = pending;
-        match (self.line_at(place).copied(), waiting.descriptor()) {
-            (Some(line), Some(given)) => self.give(place, line, giving, given, out),
+        let Pending { target, waiting } = pending;
+        match (self.line_at(target.place).copied(), waiting.descriptor()) {
+            (Some(line), Some(given)) => self.give(target, line, given, out),
             _ => put_answer(out, Answer::Bad),
         }
     }

@@ -1,11 +1,10 @@
 // A descriptor of a script that waits for its phase lines, and the line that it is for.
 use phase_lines::Waiting;
-use script::Giving;
+use script::Target;
 
-// The place of the line, how the descriptor is given to it, and the descriptor that waits.
+// The line and how the descriptor is given to it, and the descriptor that waits.
 #[derive(Drop)]
 pub struct Pending {
-    pub place: u32,
-    pub giving: Giving,
+    pub target: Target,
     pub waiting: Waiting,
 }

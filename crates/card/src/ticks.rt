@@ -18,7 +18,7 @@ impl Card {
     // Ticks the row n times, and puts each notice. Where the row is refused, no tick follows.
     pub(crate) fn run(&mut self, n: u32, out: &mut Outlet<Stdout>) -> io::Result<()> {
         for _ in 0..n {
-            let ticked = self.dispatcher.tick(self.row());
+            let ticked = self.dispatcher.tick(self.lines.as_mut_slice());
             self.dispatcher = ticked.dispatcher;
             match ticked.reply {
                 Err(why) => return put_answer(out, Answer::No(why.number())),

@@ -4,11 +4,12 @@
 ghost use Rattle.std.specs.Prelude.{◌≡◌};
 ghost use Rattle.lent_ticks.specs.Runs.{repeated, after_ticks, row_after, ticked_all};
 
-use descriptor::{BurstPart, Descriptor, TariffPart};
+use descriptor::{BurstPart, Configuration, Descriptor, TariffPart};
 use line::Line;
 use phase_lists::PhaseLists;
 use std::io;
 use std::io::Read;
+use tariff::Em;
 
 const TICKS: u32 = 7200000;
 
@@ -74,12 +75,17 @@ fn described(tariff: TariffPart, burst: BurstPart) -> Line {
         lists,
         burst,
     };
-    Line::make(50, 50, 0).line.describe(given).line
+    let fresh = Line::make(Configuration {
+        pulse: 50,
+        gap: 50,
+        clock: 0,
+    });
+    fresh.unwrap_or_default().describe(given).line
 }
 
 // An em of this period that does not end.
 fn em(period: u32) -> TariffPart {
-    TariffPart::Em { count: 0, period }
+    TariffPart::Em(Em { count: 0, period })
 }
 
 // The line of a case, which its first letter names: e for an em, p for a phased tariff, any other for a burst beside an em.

@@ -8,9 +8,10 @@ ghost use Rattle.line_examples.specs.Tells.{is_tariff, accepts, refuses};
 
 use answers::Front;
 use check::expect;
-use descriptor::{BurstPart, Descriptor, Hook, TariffPart};
+use descriptor::{BurstPart, Configuration, Descriptor, Hook, TariffPart};
 use line::{Line, Verdict};
 use phase_lists::PhaseLists;
+use tariff::Em;
 
 fn is_tariff(front: Option<Front>) -> bool
     ensures { result ≡ is_tariff front }
@@ -41,18 +42,23 @@ fn ask(line: Line, tariff: TariffPart, burst: BurstPart) -> line::Answered
     })
 }
 
-#[tactic(auto, unfolding(burst::specs::Bursts::aged_of, ticking::specs::Moves::burst_after, line::specs::Lines::burst_changed, burst::specs::Bursts::completes_of, state::specs::States::count_by, state::specs::States::count_of, line::specs::Lines::describe_of, rules::specs::Rules::distance_of, steps::specs::Steps::due_of, tariff::specs::Tariffs::em_of, line::specs::Lines::fresh_line, line::specs::Lines::hook_of, line::specs::Lines::make_of, ticking::specs::Moves::moved_by, descriptor::specs::Refusals::ruling, ticking::specs::Moves::since_front, rules::specs::Rules::sound_em, steps::specs::Steps::step_of, line::specs::Lines::tariff_changed, line::specs::Lines::tick_of))]
+#[tactic(auto, unfolding(burst::specs::Bursts::aged_of, ticking::specs::Moves::burst_after, line::specs::Lines::burst_changed, burst::specs::Bursts::completes_of, line::specs::Lines::describe_of, rules::specs::Rules::distance_of, steps::specs::Steps::due_of, tariff::specs::Tariffs::em_of, line::specs::Lines::fresh_line, line::specs::Lines::hook_of, line::specs::Lines::make_of, ticking::specs::Moves::moved_by, descriptor::specs::Refusals::ruling, rules::specs::Rules::sound_em, steps::specs::Steps::step_of, line::specs::Lines::tariff_changed, line::specs::Lines::tick_of))]
 fn main() {
-    let fresh = Line::make(50, 50, 0).line;
-    let early = TariffPart::Em {
+    let given = Configuration {
+        pulse: 50,
+        gap: 50,
+        clock: 0,
+    };
+    let fresh = Line::make(given).unwrap();
+    let early = TariffPart::Em(Em {
         count: 0,
         period: 199,
-    };
+    });
     expect(refused(4, ask(fresh, early, BurstPart::Keep).verdict));
-    let em = TariffPart::Em {
+    let em = TariffPart::Em(Em {
         count: 0,
         period: 400,
-    };
+    });
     let charge = BurstPart::Start {
         pulses: 2,
         interval: 1,

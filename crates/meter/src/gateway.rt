@@ -1,5 +1,6 @@
 // What each line of a script does to the line, and what is printed of it.
 use answers::Tick;
+use descriptor::Configuration;
 use line::{Answered, Line};
 use outlet::Outlet;
 use phase_lines::{Phases, Waiting};
@@ -77,25 +78,19 @@ impl Gateway {
     }
 
     // Makes a new line. A refused configuration leaves the old one.
-    fn configure(
-        &mut self,
-        pulse: u32,
-        gap: u32,
-        clock: u32,
-        out: &mut Outlet<Stdout>,
-    ) -> io::Result<()> {
-        let made = Line::make(pulse, gap, clock);
-        if made.verdict.is_ok() {
-            self.line = Some(made.line);
+    fn configure(&mut self, given: Configuration, out: &mut Outlet<Stdout>) -> io::Result<()> {
+        let made = Line::make(given);
+        if let Ok(line) = made {
+            self.line = Some(line);
         }
-        put_answer(out, Answer::from(made.verdict))
+        put_answer(out, Answer::from(made.map(|_| 0)))
     }
 
     // Obeys a command on the line. A descriptor may wait for phase lines first.
-    // Stays: arms as in card, which has a place and a way of giving beside; a shared function needs a contract for them.
+    // Stays: arms as in card, where a command has its target beside it; a shared function needs a contract for it.
     fn on(&mut self, line: Line, command: Command, out: &mut Outlet<Stdout>) -> io::Result<()> {
         match command {
-            Command::Configure { pulse, gap, clock } => self.configure(pulse, gap, clock, out),
+            Command::Configure(given) => self.configure(given, out),
             Command::Period(rp) => self.answered(line.set_period(rp), out),
             Command::NoPeriod => self.answered(line.clear_period(), out),
             Command::Describe { phases, burst, .. } if phases > 0 => {
@@ -116,8 +111,8 @@ impl Gateway {
 
     // Obeys a command where no line is made: only a configuration is taken.
     fn begin(&mut self, command: Command, out: &mut Outlet<Stdout>) -> io::Result<()> {
-        if let Command::Configure { pulse, gap, clock } = command {
-            return self.configure(pulse, gap, clock, out);
+        if let Command::Configure(given) = command {
+            return self.configure(given, out);
         }
         put_answer(out, Answer::Bad)
     }
@@ -134,7 +129,7 @@ impl Gateway {
     }
 
     // Obeys a descriptor that waits, once its phase lines have come.
-    // Stays: steps as in card, which has a place and a way of giving beside what waits.
+    // Stays: steps as in card, which has a target beside what waits.
     fn gather(&mut self, waiting: Waiting, out: &mut Outlet<Stdout>) -> io::Result<()> {
         if waiting.missing > 0 {
             self.waiting = Some(waiting);

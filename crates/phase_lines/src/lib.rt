@@ -16,7 +16,8 @@ use tariff::Phase;
 pub use waiting::Waiting;
 
 // The numbers of the first nine phases that were read, by name.
-// Stays: seven lists and no list of phases, since a descriptor lends seven.
+// Stays: seven lists and no list of phases, since a descriptor lends seven. They stand here by name, and in outcomes by
+// slot: one function that lends either needs an index in both, which would lose the names here.
 #[derive(Default, Drop)]
 pub struct Phases {
     pub pri: Values,

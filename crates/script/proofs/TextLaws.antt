@@ -1,5 +1,5 @@
 -- The text of a card's line is the end of the line from one of its words on, and it begins with `SG`.
-use Rattle.std.proofs.Common.{◌≡◌, refl, sym, ap, ◌∙◌, ℕ, zero, suc, ◌+◌, ◌-◌, ◌≤◌, Bool, true, false, List, [], ◌∷◌, length, take, drop, drop-drop, arith}
+use Rattle.std.proofs.Common.{◌≡◌, refl, sym, ap, ◌∙◌, ℕ, zero, suc, ◌+◌, ◌-◌, ◌≤◌, Bool, true, false, List, [], ◌∷◌, length, drop, drop-drop, arith}
 use Rattle.std.specs.Prelude.{Option, Some, None, ◌==◌, if◌then◌else◌}
 use Rattle.arrayvec.specs.ArrayVec.{ArrayVec}
 use Rattle.std.proofs.lemmas.Bool.Decides.{nat_tests}
@@ -8,12 +8,12 @@ use Rattle.script.specs.Numbers.{number_of}
 use Rattle.script.specs.Runs.{ends_run, past_run, past_blanks, past_first}
 use Rattle.script.specs.Readers.{Parsed, Reader, after, give, fail, or_else, first, rest, valued, no_word, whole}
 use Rattle.script.specs.Commands.{configure, period, describe, hook, run}
-use Rattle.script.specs.Cards.{CardLine, Add, On, Audit, Text, Tick, Group}
+use Rattle.script.specs.Cards.{CardLine, Add, On, Audit, Text, Tick, Group, target}
 use Rattle.script.specs.Cards.{of_row, of_place, for_row, for_place, all, is_text, given, commit, other, placed, at_place, grouped, group, card_command, card_command_of}
 use Rattle.script.specs.declared.Command.{Command}
 use Rattle.script.specs.declared.Command.TheVariants.{Configure, Period, NoPeriod, Describe, OnHook, Run}
-use Rattle.script.specs.declared.Giving.{Giving}
 use Rattle.script.specs.declared.Giving.TheVariants.{Take, Ask, Commit}
+use Rattle.script.specs.declared.Target.{Target}
 use Rattle.script.proofs.WordLaws.{leading, first-leading, other_words}
 use Rattle.printing.specs.Bytes.{bytes}
 
@@ -77,10 +77,10 @@ record Left (l m : List ℕ) : Type 0 where
 
 -- the text of a command is one of l, if it has one
 abbrev Texts : List ℕ → CardLine → Type 0
-Texts l (Add d g clock) = Unit {0}
-Texts l (On place giving c) = Unit {0}
+Texts l (Add c) = Unit {0}
+Texts l (On to c) = Unit {0}
 Texts l (Audit place) = Unit {0}
-Texts l (Text place giving t) = TextOf l t
+Texts l (Text to t) = TextOf l t
 Texts l (Tick t) = Unit {0}
 Texts l (Group p ps) = Unit {0}
 
@@ -103,7 +103,7 @@ whole-sound l (Some (c, ws)) h = one (no_word ws)
     one false = tt
 
 row-sound : (l : List ℕ) (c : Command) → TextsIn l (of_row c)
-row-sound l (Configure d g clock) = tt
+row-sound l (Configure c) = tt
 row-sound l (Period n) = tt
 row-sound l NoPeriod = tt
 row-sound l (Describe t k u) = tt
@@ -123,10 +123,10 @@ for_row-sound l r ws = at (r ws)
     at (Some (c, vs)) = made (of_row c) vs (row-sound l c)
 
 -- and for the line at a place
-for_place-sound : (l : List ℕ) (place : ℕ) (giving : Giving) (r : Reader Command) (ws : List (List ℕ)) → Sound l (for_place place giving r ws)
-for_place-sound l place giving r ws = at (r ws)
+for_place-sound : (l : List ℕ) (to : Target) (r : Reader Command) (ws : List (List ℕ)) → Sound l (for_place to r ws)
+for_place-sound l to r ws = at (r ws)
   where
-    at : (p : Parsed Command) → Sound l (after p (λ c. give (of_place place giving c)))
+    at : (p : Parsed Command) → Sound l (after p (λ c. give (of_place to c)))
     at None = tt
     at (Some (c, vs)) = tt
 
@@ -169,12 +169,12 @@ module _ (l m : List ℕ) (e : Left l m) where
         begins = leading-text (past_blanks m) (rw (← first-leading m) h);
       }
 
-  given-sound : (giving : Giving) (place : ℕ) → Sound l (given giving m place (words_of m))
-  given-sound giving place =
+  given-sound : (to : Target) → Sound l (given to m (words_of m))
+  given-sound to =
       let w = first (words_of m) in
       let vs = rest (words_of m) in
-      either l (is_text w) (all (Text place giving (past_blanks m))) _ vs (λ h. text_at h)
-      (either l (same w (bytes "sig")) (for_place place giving describe) fail vs (λ h. for_place-sound l place giving describe vs) tt)
+      either l (is_text w) (all (Text to (past_blanks m))) _ vs (λ h. text_at h)
+      (either l (same w (bytes "sig")) (for_place to describe) fail vs (λ h. for_place-sound l to describe vs) tt)
 
   past : Left l (past_first m)
   past = record { words = suc e.words; past = ap past_first e.past }
@@ -185,8 +185,8 @@ module _ (l m : List ℕ) (e : Left l m) where
 commit-sound : (l m : List ℕ) → Left l m → (place : ℕ) → Sound l (commit m place (words_of m))
 commit-sound l m e place = one (number_of (first (words_of m)))
   where
-    one : (n : Option ℕ) → Sound l (after (valued n (rest (words_of m))) (λ n. given (Commit n) (past_first m) place))
-    one (Some n) = rw (next l m e) at (given-sound l (past_first m) (past l m e) (Commit n) place)
+    one : (n : Option ℕ) → Sound l (after (valued n (rest (words_of m))) (λ n. given (target place (Commit n)) (past_first m)))
+    one (Some n) = rw (next l m e) at (given-sound l (past_first m) (past l m e) (target place (Commit n)))
     one None = tt
 
 other-sound : (l m : List ℕ) → Left l m → (place : ℕ) → Sound l (other m place (words_of m))
@@ -194,17 +194,18 @@ other-sound l m e place =
     let w = first (words_of m) in
     let vs = rest (words_of m) in
     let k = past_first m in
-    let asked : Sound l (given Ask k place vs) = rw (next l m e) at (given-sound l k (past l m e) Ask place) in
+    let asked : Sound l (given (target place Ask) k vs) = rw (next l m e) at (given-sound l k (past l m e) (target place Ask)) in
+    let taking = target place Take in
     let committed : Sound l (commit k place vs) = rw (next l m e) at (commit-sound l k (past l m e) place) in
     either l (same w (bytes "audit")) (give (Audit place)) _ vs (λ h. tt)
-    (either l (same w (bytes "rp")) (for_place place Take period) _ vs (λ h. for_place-sound l place Take period vs)
-    (either l (same w (bytes "hook")) (for_place place Take hook) _ vs (λ h. for_place-sound l place Take hook vs)
-    (either l (same w (bytes "ask")) (given Ask k place) _ vs (λ h. asked)
+    (either l (same w (bytes "rp")) (for_place taking period) _ vs (λ h. for_place-sound l taking period vs)
+    (either l (same w (bytes "hook")) (for_place taking hook) _ vs (λ h. for_place-sound l taking hook vs)
+    (either l (same w (bytes "ask")) (given (target place Ask) k) _ vs (λ h. asked)
     (either l (same w (bytes "commit")) (commit k place) fail vs (λ h. committed) tt))))
 
 placed-sound : (l m : List ℕ) → Left l m → (place : ℕ) → Sound l (placed m place (words_of m))
 placed-sound l m e place =
-    or_sound l (given Take m place (words_of m)) _ (given-sound l m e Take place) (other-sound l m e place)
+    or_sound l (given (target place Take) m (words_of m)) _ (given-sound l m e (target place Take)) (other-sound l m e place)
 
 at-sound : (l m : List ℕ) → Left l m → Sound l (at_place m (words_of m))
 at-sound l m e = one (number_of (first (words_of m)))
@@ -232,7 +233,7 @@ command-sound l =
     (either l (same w (bytes "at")) (at_place (past_first l)) _ vs (λ h. placed)
     (either l (same w (bytes "group")) group fail vs (λ h. group-sound l vs) tt)))
 
-module _ (l : List ℕ) (place : ℕ) (giving : Giving) (t : List ℕ) (e : card_command_of l ≡ Some (Text place giving t)) where
+module _ (l : List ℕ) (to : Target) (t : List ℕ) (e : card_command_of l ≡ Some (Text to t)) where
   -- a text is what stands from a word on that begins with `SG`
   pub text-stands : TextOf l t
   text-stands = rw e at (whole-sound l (card_command l (words_of l)) (command-sound l))

@@ -1,6 +1,8 @@
 -- The lines that `meter` reads.
 use Rattle.std.specs.Prelude.{ℕ, List, [], ◌∷◌, Option, nat_le, if◌then◌else◌}
 use Rattle.tariff.specs.declared.Phase.{Phase}
+use Rattle.tariff.specs.Tariffs as tariffs
+use Rattle.descriptor.specs.declared.Configuration.{Configuration}
 use Rattle.descriptor.specs.declared.TariffPart.{TariffPart}
 use Rattle.descriptor.specs.declared.TariffPart.TheVariants.{None as NoTariff, Keep as KeepTariff, Rate, Em, Phased}
 use Rattle.descriptor.specs.declared.BurstPart.{BurstPart}
@@ -17,12 +19,16 @@ use Rattle.printing.specs.Bytes.{bytes}
 abbrev pub up_to : {A : Type 0} → ℕ → ℕ → A → Reader A
 up_to most n a = if nat_le n most then give a else fail
 
+-- a configuration of D, G and a clock
+abbrev pub configuration : ℕ → ℕ → ℕ → Configuration
+configuration d g clock = record { pulse = d; gap = g; clock = clock }
+
 -- `cfg D G clock`
 abbrev pub configure : Reader Command
 configure = do
   (d, g) ← pair
   clock ← number
-  give (Configure d g clock)
+  give (Configure (configuration d g clock))
 
 -- `rp off`, or `rp N`
 abbrev pub period : Reader Command
@@ -42,7 +48,7 @@ rate = do
 abbrev pub em : Reader (TariffPart × ℕ)
 em = do
   (c, p) ← pair
-  give (Em c p, 0)
+  give (Em (tariffs.em c p), 0)
 
 -- `ph K`, K 0 to 9
 abbrev pub phased : Reader (TariffPart × ℕ)

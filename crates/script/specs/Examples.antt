@@ -1,13 +1,14 @@
 -- The four lines of input of the paper's example. And lines of a card's script, and lines that are bad.
 use Rattle.std.specs.Prelude.{◌≡◌, refl, ℕ, List, [], ◌∷◌, map, replicate, Option, Some, None}
 use Prim.Native.String.{String}
+use Rattle.tariff.specs.Tariffs.{em}
 use Rattle.descriptor.specs.declared.TariffPart.TheVariants.{Em, Phased}
 use Rattle.descriptor.specs.declared.BurstPart.TheVariants.{Keep, Start}
 use Rattle.descriptor.specs.declared.Hook.TheVariants.{Stop}
 use Rattle.script.specs.Words.{words_of}
-use Rattle.script.specs.Commands.{command_of}
+use Rattle.script.specs.Commands.{configuration, command_of}
 use Rattle.script.specs.Readers.{whole}
-use Rattle.script.specs.Cards.{CardLine, Add, On, Audit, Text, Tick, Group, places_of, group, card_command_of}
+use Rattle.script.specs.Cards.{CardLine, Add, On, Audit, Text, Tick, Group, target, places_of, group, card_command_of}
 use Rattle.script.specs.declared.Command.{Command}
 use Rattle.script.specs.declared.Command.TheVariants.{Configure, Period, NoPeriod, Describe, OnHook, Run}
 use Rattle.script.specs.declared.Giving.{Giving}
@@ -21,7 +22,11 @@ line_of s = command_of (bytes s)
 -- the input of the paper's example
 pub input :
     map line_of ("cfg 50 50 0" ∷ "rp 3" ∷ "sig em 0 400 burst 2 1" ∷ "run 401" ∷ [])
-    ≡ Some (Configure 50 50 0) ∷ Some (Period 3) ∷ Some (Describe (Em 0 400) 0 (Start 2 1)) ∷ Some (Run 401) ∷ []
+    ≡ Some (Configure (configuration 50 50 0))
+    ∷ Some (Period 3)
+    ∷ Some (Describe (Em (em 0 400)) 0 (Start 2 1))
+    ∷ Some (Run 401)
+    ∷ []
 unfolding words_of
 input = refl
 
@@ -53,11 +58,11 @@ pub card-input :
     ∷ "at 7 audit"
     ∷ "tick 1000000"
     ∷ [])
-    ≡ Some (Add 50 50 0)
-    ∷ Some (On 0 Take (Period 3))
-    ∷ Some (On 64 Take NoPeriod)
-    ∷ Some (On 1 Take (Describe Phased 2 Keep))
-    ∷ Some (On 2 Take (OnHook Stop))
+    ≡ Some (Add (configuration 50 50 0))
+    ∷ Some (On (target 0 Take) (Period 3))
+    ∷ Some (On (target 64 Take) NoPeriod)
+    ∷ Some (On (target 1 Take) (Describe Phased 2 Keep))
+    ∷ Some (On (target 2 Take) (OnHook Stop))
     ∷ Some (Audit 7)
     ∷ Some (Tick 1_000_000)
     ∷ []
@@ -66,7 +71,7 @@ card-input = refl
 
 -- a text for the line at place 7
 abbrev text_of : Giving → String → Option CardLine
-text_of giving s = Some (Text 7 giving (bytes s))
+text_of giving s = Some (Text (target 7 giving) (bytes s))
 
 -- a text stands from SG on, whatever follows, with the blanks at its end
 pub card-text :
@@ -79,9 +84,9 @@ card-text = refl
 pub card-asked :
     map card_of
     ("at 7 ask sig ph 2 keep" ∷ "at 7 ask SG 1" ∷ "at 7 commit 12 sig em 0 400 keep" ∷ " at 7  commit 012  SG{} " ∷ [])
-    ≡ Some (On 7 Ask (Describe Phased 2 Keep))
+    ≡ Some (On (target 7 Ask) (Describe Phased 2 Keep))
     ∷ text_of Ask "SG 1"
-    ∷ Some (On 7 (Commit 12) (Describe (Em 0 400) 0 Keep))
+    ∷ Some (On (target 7 (Commit 12)) (Describe (Em (em 0 400)) 0 Keep))
     ∷ text_of (Commit 12) "SG{} "
     ∷ []
 unfolding words_of

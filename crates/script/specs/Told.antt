@@ -14,10 +14,10 @@ told (Some (a, rest)) = Some (a, words_of rest.now)
 
 -- what a card's command asks, with the bytes of its text as they stand
 abbrev pub line_of : CardCommand → CardLine
-line_of (code.Configure d g clock) = Add d g clock
-line_of (code.On place giving c) = On place giving c
+line_of (code.Configure c) = Add c
+line_of (code.On to c) = On to c
 line_of (code.Audit place) = Audit place
-line_of (code.Text place giving text) = Text place giving text.now
+line_of (code.Text to text) = Text to text.now
 line_of (code.Tick t) = Tick t
 line_of (code.Group p ps) = Group p ps
 

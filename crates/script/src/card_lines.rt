@@ -16,9 +16,7 @@ fn of_row<'a>(read: (Command, &'a [u8])) -> Option<(CardCommand<'a>, &'a [u8])>
     ensures { told_line result ≡ valued (of_row read.entry.0) (words_of read.entry.1.now) }
 {
     match read {
-        (Command::Configure { pulse, gap, clock }, rest) => {
-            Some((CardCommand::Configure { pulse, gap, clock }, rest))
-        }
+        (Command::Configure(given), rest) => Some((CardCommand::Configure(given), rest)),
         (Command::Run(ticks), rest) => Some((CardCommand::Tick(ticks), rest)),
         _ => None,
     }

@@ -8,7 +8,7 @@ use super::Command;
 use super::numbers::{next_number, number_in};
 use super::parts::{next_burst, next_tariff};
 use super::words::{next_word, whole};
-use descriptor::Hook;
+use descriptor::{Configuration, Hook};
 
 // Reads what follows `cfg`: D, G and the clock.
 pub(crate) fn next_configure(line: &[u8]) -> Option<(Command, &[u8])>
@@ -17,7 +17,8 @@ pub(crate) fn next_configure(line: &[u8]) -> Option<(Command, &[u8])>
     let (pulse, line) = next_number(line)?;
     let (gap, line) = next_number(line)?;
     let (clock, line) = next_number(line)?;
-    Some((Command::Configure { pulse, gap, clock }, line))
+    let given = Configuration { pulse, gap, clock };
+    Some((Command::Configure(given), line))
 }
 
 // Reads what follows `rp`: off, or N.

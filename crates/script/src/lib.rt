@@ -2,7 +2,7 @@
 #![tactic(auto)]
 
 use arrayvec::ArrayVec;
-use descriptor::{BurstPart, Hook, TariffPart};
+use descriptor::{BurstPart, Configuration, Hook, TariffPart};
 
 mod card_lines;
 mod commands;
@@ -17,15 +17,11 @@ pub use card_lines::read_card;
 pub use commands::read_command;
 pub use phases::read_phase;
 
-// What a line that `meter` reads asks. `phases` is the number of phase lines that follow, 0 where the tariff is not
-// phased.
+// What a line that `meter` reads asks. `phases` is the number of phase lines that follow.
+// Stays: no line follows `ph 0` and the other tariffs alike, so 0 is a number here and no case of its own.
 #[derive(Clone, Copy, PartialEq, Eq, Debug)]
 pub enum Command {
-    Configure {
-        pulse: u32,
-        gap: u32,
-        clock: u32,
-    },
+    Configure(Configuration),
     Period(u32),
     NoPeriod,
     Describe {
@@ -48,28 +44,20 @@ pub enum Giving {
     Commit(u32),
 }
 
+// The place of the line that something is for, and how a descriptor is given to that line.
+#[derive(Clone, Copy, PartialEq, Eq, Debug)]
+pub struct Target {
+    pub place: u32,
+    pub giving: Giving,
+}
+
 // What a line of a card's script asks. Only a descriptor is asked or committed. A text is the end of the line.
 #[derive(Clone, PartialEq, Eq, Debug, Drop)]
 pub enum CardCommand<'a> {
-    Configure {
-        pulse: u32,
-        gap: u32,
-        clock: u32,
-    },
-    On {
-        place: u32,
-        giving: Giving,
-        command: Command,
-    },
+    Configure(Configuration),
+    On { target: Target, command: Command },
     Audit(u32),
-    Text {
-        place: u32,
-        giving: Giving,
-        text: &'a [u8],
-    },
+    Text { target: Target, text: &'a [u8] },
     Tick(u32),
-    Group {
-        interval: u32,
-        places: Places,
-    },
+    Group { interval: u32, places: Places },
 }

@@ -7,6 +7,7 @@ ghost use Rattle.script.specs.Commands.{rate, em, phased, tariff_part, burst, bu
 use super::numbers::next_number;
 use super::words::next_word;
 use descriptor::{BurstPart, TariffPart};
+use tariff::Em;
 
 // Reads what follows `rate`: P.
 fn next_rate(line: &[u8]) -> Option<((TariffPart, u32), &[u8])>
@@ -22,7 +23,7 @@ fn next_em(line: &[u8]) -> Option<((TariffPart, u32), &[u8])>
 {
     let (count, line) = next_number(line)?;
     let (period, line) = next_number(line)?;
-    Some(((TariffPart::Em { count, period }, 0), line))
+    Some(((TariffPart::Em(Em { count, period }), 0), line))
 }
 
 // Reads what follows `ph`: K.

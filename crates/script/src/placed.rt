@@ -3,46 +3,43 @@ ghost use Rattle.std.specs.Prelude.{◌≡◌, Some};
 ghost use Rattle.script.specs.Words.{words_of};
 ghost use Rattle.script.specs.Readers.{give};
 ghost use Rattle.script.specs.Told.{told_line};
-ghost use Rattle.script.specs.Cards.{of_place, given, commit, other, placed, at_place};
+ghost use Rattle.script.specs.Cards.{target, given, of_place, commit, other, placed, at_place};
 
 use super::commands::{next_describe, next_hook, next_period};
 use super::numbers::next_number;
 use super::words::{next_word, past_blanks};
-use super::{CardCommand, Command, Giving};
+use super::{CardCommand, Command, Giving, Target};
+
+// The line at a place, to which a descriptor is given so.
+fn target(place: u32, giving: Giving) -> Target
+    ensures { result ≡ target place giving }
+{
+    Target { place, giving }
+}
 
 // A command of `meter` that was read, on the line at a place.
-fn of_place<'a>(
-    place: u32,
-    giving: Giving,
-    read: (Command, &'a [u8]),
-) -> (CardCommand<'a>, &'a [u8])
-    ensures { told_line (Some result) ≡ give (of_place place giving read.entry.0) (words_of read.entry.1.now) }
+fn of_place<'a>(target: Target, read: (Command, &'a [u8])) -> (CardCommand<'a>, &'a [u8])
+    ensures { told_line (Some result) ≡ give (of_place target read.entry.0) (words_of read.entry.1.now) }
 {
     let (command, rest) = read;
-    let on = CardCommand::On {
-        place,
-        giving,
-        command,
-    };
-    (on, rest)
+    (CardCommand::On { target, command }, rest)
 }
 
 // Reads a descriptor: a text, up to the end of the line, or `sig`.
 #[tactic(auto, unfolding(crate::specs::Words::words_of))]
-fn next_given(line: &[u8], place: u32, giving: Giving) -> Option<(CardCommand<'_>, &[u8])>
-    ensures { told_line result ≡ given giving line.now place (words_of line.now) }
+fn next_given(line: &[u8], target: Target) -> Option<(CardCommand<'_>, &[u8])>
+    ensures { told_line result ≡ given target line.now (words_of line.now) }
 {
     let (word, past) = next_word(line);
     if word.starts_with(b"SG") {
         let text = CardCommand::Text {
-            place,
-            giving,
+            target,
             text: past_blanks(line),
         };
         return Some((text, &[]));
     }
     match word {
-        b"sig" => Some(of_place(place, giving, next_describe(past)?)),
+        b"sig" => Some(of_place(target, next_describe(past)?)),
         _ => None,
     }
 }
@@ -52,7 +49,7 @@ fn next_commit(line: &[u8], place: u32) -> Option<(CardCommand<'_>, &[u8])>
     ensures { told_line result ≡ commit line.now place (words_of line.now) }
 {
     let (ticket, rest) = next_number(line)?;
-    next_given(rest, place, Giving::Commit(ticket))
+    next_given(rest, target(place, Giving::Commit(ticket)))
 }
 
 // Reads what follows the place, where that is no descriptor to be taken.
@@ -60,11 +57,12 @@ fn next_other(line: &[u8], place: u32) -> Option<(CardCommand<'_>, &[u8])>
     ensures { told_line result ≡ other line.now place (words_of line.now) }
 {
     let (word, rest) = next_word(line);
+    let taking = target(place, Giving::Take);
     match word {
         b"audit" => Some((CardCommand::Audit(place), rest)),
-        b"rp" => Some(of_place(place, Giving::Take, next_period(rest)?)),
-        b"hook" => Some(of_place(place, Giving::Take, next_hook(rest)?)),
-        b"ask" => next_given(rest, place, Giving::Ask),
+        b"rp" => Some(of_place(taking, next_period(rest)?)),
+        b"hook" => Some(of_place(taking, next_hook(rest)?)),
+        b"ask" => next_given(rest, target(place, Giving::Ask)),
         b"commit" => next_commit(rest, place),
         _ => None,
     }
@@ -74,7 +72,7 @@ fn next_other(line: &[u8], place: u32) -> Option<(CardCommand<'_>, &[u8])>
 fn next_placed(line: &[u8], place: u32) -> Option<(CardCommand<'_>, &[u8])>
     ensures { told_line result ≡ placed line.now place (words_of line.now) }
 {
-    next_given(line, place, Giving::Take).or_else(|| next_other(line, place))
+    next_given(line, target(place, Giving::Take)).or_else(|| next_other(line, place))
 }
 
 // Reads what follows `at`: the place, and what is for the line there.

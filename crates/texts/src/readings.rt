@@ -4,6 +4,7 @@ use outcomes::{Reading, slots};
 use outlet::Outlet;
 use std::io;
 use std::io::{Stdout, Write};
+use tariff::Em;
 
 // Puts a phase list in brackets. One that is over eight long is too long for a tariff, and not written out.
 fn put_list(out: &mut Outlet<Stdout>, list: &[u32]) -> io::Result<()> {
@@ -31,17 +32,20 @@ fn put_phases(out: &mut Outlet<Stdout>, reading: &Reading) -> io::Result<()> {
 }
 
 // Puts the tariff part.
+// Stays: no Display, since this program alone prints these words. A Display would stand in descriptor, with a contract
+// for them, and the phased part of a text has its lists beside it.
 fn put_tariff(out: &mut Outlet<Stdout>, reading: &Reading) -> io::Result<()> {
     match reading.tariff {
         TariffPart::None => out.write_all(b"none"),
         TariffPart::Keep => out.write_all(b"keep"),
         TariffPart::Rate { interval } => write!(out, "rate {interval}"),
-        TariffPart::Em { count, period } => write!(out, "em {count} {period}"),
+        TariffPart::Em(Em { count, period }) => write!(out, "em {count} {period}"),
         TariffPart::Phased => put_phases(out, reading),
     }
 }
 
 // Puts the burst part.
+// Stays: no Display, since this program alone prints these words. One would stand in descriptor, with a contract.
 fn put_burst(out: &mut Outlet<Stdout>, part: BurstPart) -> io::Result<()> {
     match part {
         BurstPart::None => out.write_all(b" none"),
