@@ -21,6 +21,9 @@ pub record Stand (A : Type 0) : Type 0 where
   pub program : A
   pub output : Option (List ℕ)
 
+abbrev pub stand : {A : Type 0} → Progress → List ℕ → A → Option (List ℕ) → Stand A
+stand input buf program output = record { input = input; buf = buf; program = program; output = output }
+
 -- the next line, if there is one
 abbrev pub line_at : {A : Type 0} → Stand A → Option Span
 line_at s = next_of s.buf s.input
@@ -66,12 +69,14 @@ module _ {A : Type 0} (reads : A → List ℕ → A → Type 0)
   Steps zero s t = t ≡ s
   Steps (suc n) s t = (m : Stand A) × Steps n s m × Step m t
 
-  -- from where an input stands to its end, or for as many steps as are counted; then the program stays as it is, and
-  -- known output stays at the front
-  pub record Serves (at : Progress) (buf : List ℕ) (old new : A) (before after : Option (List ℕ)) : Type 0 where
+  -- from where an input stands to its end, or for as many steps as are counted; then the input and the program stay as
+  -- they are, and known output stays at the front
+  pub record Serves (s t : Stand A) : Type 0 where
     pub steps : ℕ
     pub last : Stand A
-    pub taken : Steps steps (record { input = at; buf = buf; program = old; output = before }) last
+    pub taken : Steps steps s last
     pub ends : (is_over last ≡ true) ⊎ (steps ≡ most_steps)
-    pub program : last.program ≡ new
-    pub output : Grows last.output after
+    pub input : last.input ≡ t.input
+    pub buf : last.buf ≡ t.buf
+    pub program : last.program ≡ t.program
+    pub output : Grows last.output t.output

@@ -3,7 +3,7 @@
 
 ghost use Rattle.std.specs.Prelude.{◌≡◌, OnOk, Option, List, [], ℕ};
 ghost use Rattle.outlet.specs.Held.{known_of};
-ghost use Rattle.programs.specs.Serving.{Grows, Handed, Put, Serves};
+ghost use Rattle.programs.specs.Serving.{Grows, Handed, Put, Serves, stand};
 
 use lines::{Input, Span};
 use outlet::Outlet;
@@ -61,18 +61,19 @@ fn react<R, const N: usize, W: Write, P: Program<W>>(
     }
 }
 
-// Hands over each line of the input that is not yet taken, and closes at its end. Where it answers Ok, nothing is held
-// back, known output changed as the program says of each line, and what was known before the close stays at the front.
-// A proved loop has to end, and nothing says that the input does: the steps are counted up to a number that no run
-// reaches.
+// Hands over each line of the input that is not yet taken, and closes at its end. Where it answers Ok, the input stands
+// at its end, nothing is held back, known output changed as the program says of each line, and what was known before
+// the close stays at the front. A proved loop has to end, and nothing says that the input does: the steps are counted up
+// to a number that no run reaches.
 pub fn serve<R: Read, const N: usize, W: Write, P: Program<W>>(
     program: &mut P,
     input: &mut Input<R, N>,
     out: &mut Outlet<W>,
 ) -> io::Result<()>
     ensures sent { OnOk result (out.new.held.items ≡ []) }
-    ensures served { OnOk result (Serves P.reads P.puts input.old.at input.old.buf program.old program.new
-        (known_of W.contents out.old) (known_of W.contents out.new)) }
+    ensures served { OnOk result (Serves P.reads P.puts
+        (stand input.old.at input.old.buf program.old (known_of W.contents out.old))
+        (stand input.new.at input.new.buf program.new (known_of W.contents out.new))) }
 {
     for _ in 0..u64::MAX {
         let line = input.next();

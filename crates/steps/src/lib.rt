@@ -1,7 +1,7 @@
 // A tariff one tick on: what is due, and where the tariff stands after it.
 #![tactic(auto)]
 
-ghost use Rattle.std.specs.Prelude.{◌≡◌, cond, eqb, Some, false};
+ghost use Rattle.std.specs.Prelude.{◌≡◌, if◌then◌else◌, ◌==◌, Some, false};
 ghost use Rattle.steps.specs.Steps.{due_of, step_of, stepped};
 ghost use Rattle.tariff.specs.declared.Slot.TheVariants.{Empty, Pulse};
 ghost use Rattle.tariff.specs.declared.Tariff.TheVariants.{Phased};
@@ -34,7 +34,7 @@ impl Stepped {
 
 // The slot of an interval of m pulses.
 fn slot_of(m: u32) -> Slot
-    ensures { result ≡ cond (eqb m 0) Empty Pulse }
+    ensures { result ≡ (if m == 0 then Empty else Pulse) }
 {
     if m == 0 { Slot::Empty } else { Slot::Pulse }
 }

@@ -30,6 +30,8 @@ returns-clause-served g c =
             | else-loop-test w ↦ inr (omega (arith, w.loop-test, c.loop.auto.counter-end))
             | then-loop-test+then-is_over w ↦ inl (rw (w.is_over.ensures, w.next-line.ensures) at w.if-is_over.true)
           ];
+      input = refl;
+      buf = refl;
       program = refl;
       output = grows;
     })
