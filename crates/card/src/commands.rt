@@ -18,7 +18,8 @@ fn put_counters(out: &mut Outlet<Stdout>, audit: Audited) -> io::Result<()> {
 
 impl Card {
     // Obeys a command on its line. A descriptor may wait for phase lines first.
-    // Stays: arms as in meter, where a command has no target; a shared function needs a contract for it.
+    // Stays: arms as in meter, where a command has no target. A function for both has to have a contract, and std says
+    // nothing of what goes to a `Stdout`.
     fn on(
         &mut self,
         target: Target,
@@ -72,7 +73,8 @@ impl Card {
     }
 
     // Obeys a descriptor that waits, once its phase lines have come.
-    // Stays: steps as in meter, where no target stands beside what waits.
+    // Stays: steps as in meter, where no target stands beside what waits; a function for both needs a contract, as `on`
+    // does.
     fn gather(&mut self, pending: Pending, out: &mut Outlet<Stdout>) -> io::Result<()> {
         if pending.waiting.missing > 0 {
             self.pending = Some(pending);

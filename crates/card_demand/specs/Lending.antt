@@ -2,7 +2,6 @@
 -- of a line.
 use Rattle.std.specs.Prelude.{◌≡◌, if◌then◌else◌, List, [], ◌++◌, map, ℕ, length, get_or, set, take, drop, Ok, Err}
 use Rattle.std.specs.Prelude.{is_ok}
-use Rattle.std.specs.Prelude.{if◌then◌else◌}
 use Rattle.descriptor.specs.Refusals.{refusal_number}
 use Rattle.line.specs.Lines.{Verdict, blank_line}
 use Rattle.line.specs.declared.Line.{Line}

@@ -1,7 +1,7 @@
 -- What a card's history says of each line: read from its calls, its replies and the lines' entries alone.
 use Rattle.std.specs.Prelude.{Bool, true, false, if◌then◌else◌, ◌&&◌, List, [], ◌∷◌, ◌++◌, ℕ, ◌+◌, min, nat_lt, ◌==◌}
 use Rattle.std.specs.Prelude.{get_or}
-use Rattle.std.specs.Prelude.{if◌then◌else◌, Option, Some, None}
+use Rattle.std.specs.Prelude.{Option, Some, None}
 use Rattle.std.specs.Option.{option_or, unwrap_or}
 use Rattle.answers.specs.declared.Tick.{Tick}
 use Rattle.dispatcher.specs.Dispatch.{place_after}

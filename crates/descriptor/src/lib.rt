@@ -14,8 +14,10 @@ pub use tables::phases_for;
 use tariff::Em;
 pub use tickets::ticket_ruling;
 
-// The tariff part of a descriptor. The lists of a phased tariff stand beside it.
-// Stays: none and keep are words of the paper like the others, and an Option would set one of them apart.
+// The tariff part of a descriptor. The phases of a phased tariff stand beside it.
+// Stays: none and keep are words of the paper like the others, and an Option would set one of them apart. The phases
+// are in another form at each step (lists lent, values of a text, a table, a number of lines): within, the enum would
+// be generic over them, and with it each function that asks for no phases.
 #[derive(Clone, Copy, PartialEq, Eq, Debug)]
 pub enum TariffPart {
     None,

@@ -20,7 +20,8 @@ pub struct Waiting {
 
 // The length of the row at the first tick that was taken, if there was one; the place after the last served; and what
 // waits of each place.
-// Stays: the 64 places are an array, since the gateway has fixed memory.
+// Stays: the 64 places are an array. All of them are there from the start, and an ArrayVec is no Copy, which a
+// dispatcher is that ticks hand back.
 #[derive(Clone, Copy)]
 pub struct Dispatcher {
     pub length: Option<usize>,

@@ -33,6 +33,8 @@ impl Dispatcher {
             };
         }
         let mut dispatcher = self;
+        // Stays: by its place in the row, which is also its place in what waits: the row is its caller's, and may be
+        // shorter.
         for (i, line) in row.iter_mut().enumerate() {
             dispatcher.gather(i, lent::tick_in_place(line));
         }

@@ -5,7 +5,7 @@ ghost use Rattle.dispatcher.specs.Dispatch.{tells, waits_in, first_from, turn_of
 use super::Dispatcher;
 
 // The place after i in a row of n.
-// Stays: the next below an end, as `next_entry` of steps has it on u64; shared, each call needs two casts.
+// Stays: the next below an end, as `next_entry` of steps has it on u64; shared on that, this call needs three casts.
 pub(crate) fn place_after(n: usize, i: usize) -> usize
     ensures { result ≡ place_after n i }
 {

@@ -29,8 +29,7 @@ fn repx_of(a: u32, b: u32, n: u32) -> u32
 pub fn parameters_of(a: u32, b: u32, n: u32) -> Option<Parameters>
     ensures { parameters_told result ≡ parameters_answer a b n }
 {
-    // Stays: n's two tests; with `!(1..=100).contains(&n)` in their place `search` finds no proof of the result.
-    if b == 0 || n < 1 || n > 100 {
+    if b == 0 || !matches!(n, 1..=100) {
         return None;
     }
     let pcx = a.div_ceil(b);

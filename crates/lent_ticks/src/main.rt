@@ -1,4 +1,5 @@
-// Ticks a line where it lies, or a row of 64, for timing: twenty rounds of the case that standard input names, of 7,200,000 ticks each.
+// Ticks a line where it lies, or a row of 64, for timing: twenty rounds of the case that standard input names, of
+// 7,200,000 ticks each.
 #![tactic(auto)]
 
 ghost use Rattle.std.specs.Prelude.{◌≡◌};
@@ -88,7 +89,8 @@ fn em(period: u32) -> TariffPart {
     TariffPart::Em(Em { count: 0, period })
 }
 
-// The line of a case, which its first letter names: e for an em, p for a phased tariff, any other for a burst beside an em.
+// The line of a case, which its first letter names: e for an em, p for a phased tariff, any other for a burst beside an
+// em.
 fn line_of(letter: u8) -> Line {
     match letter {
         b'e' => described(em(400), BurstPart::None),

@@ -18,8 +18,9 @@ use tariff::Schedule;
 
 // A line: pulse length and spacing, its state, and the phases of a phased tariff. The serial is the number of accepted
 // commands, held at 4,294,967,295.
-// Stays: the pulse length beside the spacing, since most of what a line calls asks one of the two: `burst::age`,
-// `steps::step` and `is_on` the length, `has_room`, `origin_wait` and `tick_quietly` the spacing.
+// Stays: the pulse length beside the spacing. A tick, the test for a quiet one and `idle` take both; what they call,
+// and the rest of the line, takes one of them (bursts, steps and `is_on` the length, rooms, rules and origins the
+// spacing).
 #[derive(Clone, Copy)]
 pub struct Line {
     pub pulse: u32,

@@ -40,7 +40,7 @@ impl Line {
     }
 }
 
-// A blank line, which begins no pulse.
+// A blank line, which begins no pulse: an ArrayVec of lines has it where no line was put yet.
 impl Default for Line {
     ghost is_default = { λ line. line ≡ blank_line };
 

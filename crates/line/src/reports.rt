@@ -5,6 +5,7 @@ ghost use Rattle.line.specs.Lines.{period_of, no_period_of, audit_of};
 use super::{Answered, Audited, Line};
 use descriptor::Refusal;
 
+// Stays: setting and clearing are two calls, since the one may be refused, with 2, and the other never is.
 impl Line {
     // Sets the report period; pcslr stays.
     #[tactic(auto, unfolding(crate::specs::Lines::period_of, descriptor::specs::Refusals::ruling))]

@@ -5,6 +5,8 @@ ghost use Rattle.lines.specs.Rooms.{fed_of};
 
 // The bytes `start` to `end` of the buffer are read and not yet taken. `dropped` is set within a line that is too long
 // for the buffer, of which the first bytes were dropped, and `came` where the last read brought something.
+// Stays: no invariant says that the places lie in the buffer, in this order: each function takes any places, and a type
+// with an invariant asks more of its callers.
 #[derive(Clone, Copy)]
 pub struct Progress {
     pub start: usize,

@@ -46,7 +46,7 @@ fn print_map(rt: &impl Print, clause: &str, p: Parameters, n: u32, k: u32) -> io
     )?;
     print_intervals(rt, p, n, k)?;
     print!(rt; " (pulses ")?;
-    print_count(rt, pulse_map::pulses_in(p.pcx, p.repx, p.pcn, p.repn, k))?;
+    print_count(rt, pulse_map::pulses_in(p, k))?;
     print!(rt; ", X's of the map ")?;
     print_count(rt, pulse_map::xs_in_prefix(p.repx, p.repn, n))?;
     println!(rt; ")")

@@ -12,7 +12,7 @@ use std::io;
 use std::io::{Stdout, Write};
 
 // A gateway: its line, once a configuration was accepted, and the descriptor that waits for phase lines, if one does.
-#[derive(Drop)]
+#[derive(Default, Drop)]
 pub struct Gateway {
     pub line: Option<Line>,
     pub waiting: Option<Waiting>,
@@ -25,6 +25,7 @@ fn put_answer(out: &mut Outlet<Stdout>, answer: Answer) -> io::Result<()> {
 }
 
 // Puts what a tick tells, if it tells something.
+// Stays: the clock and cpc as two numbers, here and in printing, which stands below the state that they are of.
 fn put_tick(out: &mut Outlet<Stdout>, clock: u32, cpc: u32, tick: Tick) -> io::Result<()> {
     if tick == Tick::default() {
         return Ok(());
@@ -64,13 +65,6 @@ fn run(line: Line, n: u32, out: &mut Outlet<Stdout>) -> io::Result<Line> {
 }
 
 impl Gateway {
-    pub(crate) fn new() -> Gateway {
-        Gateway {
-            line: None,
-            waiting: None,
-        }
-    }
-
     // Takes the line that a command handed back, and puts its answer.
     fn answered(&mut self, answer: Answered, out: &mut Outlet<Stdout>) -> io::Result<()> {
         self.line = Some(answer.line);
@@ -87,7 +81,8 @@ impl Gateway {
     }
 
     // Obeys a command on the line. A descriptor may wait for phase lines first.
-    // Stays: arms as in card, where a command has its target beside it; a shared function needs a contract for it.
+    // Stays: arms as in card, where a command has its target beside it. A function for both has to have a contract, and
+    // std says nothing of what goes to a `Stdout`.
     fn on(&mut self, line: Line, command: Command, out: &mut Outlet<Stdout>) -> io::Result<()> {
         match command {
             Command::Configure(given) => self.configure(given, out),
@@ -129,7 +124,8 @@ impl Gateway {
     }
 
     // Obeys a descriptor that waits, once its phase lines have come.
-    // Stays: steps as in card, which has a target beside what waits.
+    // Stays: steps as in card, which has a target beside what waits; a function for both needs a contract, as `on`
+    // does.
     fn gather(&mut self, waiting: Waiting, out: &mut Outlet<Stdout>) -> io::Result<()> {
         if waiting.missing > 0 {
             self.waiting = Some(waiting);

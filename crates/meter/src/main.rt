@@ -8,9 +8,10 @@ use lines::Input;
 use outlet::Outlet;
 use std::io;
 
-// Stays: each program has its main, and only a main gets the runtime.
+// Stays: each program has its main, since only a main gets the runtime. A function for all that takes reader and writer
+// could say nothing of what was written.
 fn main(rt: HostRuntime) -> io::Result<()> {
     let mut input = Input::<_, 65536>::new(rt.stdin());
     let mut out = Outlet::new(rt.stdout());
-    programs::serve(&mut Gateway::new(), &mut input, &mut out)
+    programs::serve(&mut Gateway::default(), &mut input, &mut out)
 }

@@ -80,6 +80,7 @@ impl PhaseLists<'static> {
 
 impl PhaseLists<'_> {
     // How many phases the lists hold: their one length, or none where their lengths differ.
+    // Stays: 0 there, and no None, since lists without a number are refused alike, with 5.
     #[tactic(auto, unfolding(crate::specs::Tables::phase_count))]
     fn count(self) -> usize
         ensures { result ≡ phase_count (lists_in self.entry) }
@@ -117,6 +118,8 @@ impl PhaseLists<'_> {
         for i in 0..self.count() {
             let p = self.phase(i);
             table.carry = table.carry.meet(spacing, p);
+            // Stays: a test of the place. std says of `get_mut` what it finds, and not what the array holds after a
+            // write.
             if i < 8 {
                 table.phases[i] = p;
             }

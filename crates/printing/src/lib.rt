@@ -1,4 +1,6 @@
 // The lines that the programs `meter` and `card` print.
+// Stays: functions that give texts, and no Display, since all but one print more than one value: an answer with its
+// ticket, a tick with clock and cpc, a notice with its tick.
 #![tactic(auto)]
 
 ghost use Rattle.std.specs.Prelude.{◌≡◌};

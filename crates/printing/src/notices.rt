@@ -5,6 +5,7 @@ ghost use Rattle.printing.specs.Text.{notice_text, counters_text};
 use super::text::{Text, pair};
 
 // The line of a notice. Not inlined, as `answer_text` is not.
+// Stays: its numbers, and no notice of the dispatcher, which the other program that prints does not have.
 #[inline(never)]
 pub fn notice_text(tick: u32, place: u32, tariff: bool, burst: bool, reports: u32) -> Text
     ensures { result ≡ notice_text tick place tariff burst reports }

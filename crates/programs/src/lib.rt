@@ -63,8 +63,8 @@ fn react<R, const N: usize, W: Write, P: Program<W>>(
 
 // Hands over each line of the input that is not yet taken, and closes at its end. Where it answers Ok, the input stands
 // at its end, nothing is held back, known output changed as the program says of each line, and what was known before
-// the close stays at the front. A proved loop has to end, and nothing says that the input does: the steps are counted up
-// to a number that no run reaches.
+// the close stays at the front. A proved loop has to end, and nothing says that the input does: the steps are counted
+// up to a number that no run reaches.
 pub fn serve<R: Read, const N: usize, W: Write, P: Program<W>>(
     program: &mut P,
     input: &mut Input<R, N>,

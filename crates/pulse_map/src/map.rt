@@ -37,8 +37,8 @@ impl Map {
 }
 
 // Element i of the map, the first being element 0; none is refusal 11.
-// Stays: repx and repn are numbers here and in the two below, since the paper turns down a map, and an element past its
-// end, in one call with one number; a `Map` that callers make would be refused in a call of its own.
+// Stays: repx and repn are numbers here and in `xs_in_prefix`, since the paper turns down a map, and an element past
+// its end, in one call with one number; a `Map` that callers make would be refused in a call of its own.
 #[tactic(auto, unfolding(crate::specs::Refusals::no_map))]
 pub fn element_at(repx: u32, repn: u32, i: u32) -> Option<Element>
     ensures { element_told result ≡ element_answer repx repn i }

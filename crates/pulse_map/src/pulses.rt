@@ -5,6 +5,7 @@ ghost use Rattle.pulse_map.specs.Answers.{pulses_answer};
 ghost use Rattle.pulse_map.specs.Told.{count_told};
 
 use super::map::Map;
+use fractions::Parameters;
 
 impl Map {
     // The X's of the first k intervals: those of each whole turn of the map, and those of the turn begun.
@@ -18,17 +19,17 @@ impl Map {
 }
 
 // The pulses of k intervals of which xs have an X.
-fn weighed(pcx: u32, pcn: u32, xs: u64, k: u32) -> u64
+fn weighed(p: Parameters, xs: u64, k: u32) -> u64
     requires { xs ≤ k }
-    ensures { result ≡ xs * pcx + (k - xs) * pcn }
+    ensures { result ≡ xs * p.pcx + (k - xs) * p.pcn }
 {
-    xs * u64::from(pcx) + (u64::from(k) - xs) * u64::from(pcn)
+    xs * u64::from(p.pcx) + (u64::from(k) - xs) * u64::from(p.pcn)
 }
 
 // The number of pulses in the first k charge intervals of a phase; none is refusal 11.
-pub fn pulses_in(pcx: u32, repx: u32, pcn: u32, repn: u32, k: u32) -> Option<u64>
-    ensures { count_told result ≡ pulses_answer pcx repx pcn repn k }
+pub fn pulses_in(p: Parameters, k: u32) -> Option<u64>
+    ensures { count_told result ≡ pulses_answer p.pcx p.repx p.pcn p.repn k }
 {
-    let xs = Map::of(repx, repn)?.xs_over(k.into());
-    Some(weighed(pcx, pcn, xs, k))
+    let xs = Map::of(p.repx, p.repn)?.xs_over(k.into());
+    Some(weighed(p, xs, k))
 }

@@ -55,9 +55,5 @@ fn fits_in(p: Phase, seconds: u32) -> bool
 pub(crate) fn is_sound(p: Phase, spacing: u32) -> bool
     ensures { result ≡ sound_phase spacing p }
 {
-    if !sound_numbers(p, spacing) {
-        return false;
-    }
-    let rest = p.pd % p.ci;
-    fits_in(p, p.ci) && (rest == 0 || fits_in(p, rest))
+    sound_numbers(p, spacing) && fits_in(p, p.ci) && (p.pd % p.ci == 0 || fits_in(p, p.pd % p.ci))
 }

@@ -18,7 +18,8 @@ pub use commands::read_command;
 pub use phases::read_phase;
 
 // What a line that `meter` reads asks. `phases` is the number of phase lines that follow.
-// Stays: no line follows `ph 0` and the other tariffs alike, so 0 is a number here and no case of its own.
+// Stays: no line follows `ph 0` and the other tariffs alike, so 0 is a number here and no case of its own. Setting and
+// clearing a report period are two cases, as they are two calls of the line.
 #[derive(Clone, Copy, PartialEq, Eq, Debug)]
 pub enum Command {
     Configure(Configuration),

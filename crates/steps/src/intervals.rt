@@ -22,7 +22,8 @@ pub(crate) fn pulses_at(p: Phase, entry: u64) -> u32
 }
 
 // The map entry of the next charge interval: the map repeats.
-// Stays: the next below an end, as `place_after` of the dispatcher has it on usize; shared, each call needs two casts.
+// Stays: the next below an end, as `place_after` of the dispatcher has it on usize, where a call of this would need
+// three casts.
 #[tactic(auto, unfolding(crate::specs::Steps::next_entry))]
 pub(crate) fn next_entry(p: Phase, entry: u64) -> u64
     ensures { result ≡ next_entry p entry }

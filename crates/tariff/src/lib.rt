@@ -42,7 +42,8 @@ pub struct Em {
 
 // Where a phased tariff stands: before a slot of a charge interval, by its phase, its map entry, the seconds of the
 // phase from the interval's start on, and the slot. An entry counts up to repx + repn, which 32 bits may not hold.
-// Stays: `left` begins as pd, which is 0 in an endless phase; an Option made of that number is no plainer.
+// Stays: `left` begins as pd, which the paper has 0 in an endless phase: an Option would be made of that 0 where a
+// phase begins, and asked in one test where an interval ends.
 #[derive(Clone, Copy, PartialEq, Eq, Debug)]
 pub struct Position {
     pub phase: u32,

@@ -33,7 +33,7 @@ fn put_phases(out: &mut Outlet<Stdout>, reading: &Reading) -> io::Result<()> {
 
 // Puts the tariff part.
 // Stays: no Display, since this program alone prints these words. A Display would stand in descriptor, with a contract
-// for them, and the phased part of a text has its lists beside it.
+// for them, or on a wrapper made for one call, and the phased part of a text has its lists beside it.
 fn put_tariff(out: &mut Outlet<Stdout>, reading: &Reading) -> io::Result<()> {
     match reading.tariff {
         TariffPart::None => out.write_all(b"none"),
@@ -45,7 +45,7 @@ fn put_tariff(out: &mut Outlet<Stdout>, reading: &Reading) -> io::Result<()> {
 }
 
 // Puts the burst part.
-// Stays: no Display, since this program alone prints these words. One would stand in descriptor, with a contract.
+// Stays: no Display, as above.
 fn put_burst(out: &mut Outlet<Stdout>, part: BurstPart) -> io::Result<()> {
     match part {
         BurstPart::None => out.write_all(b" none"),
