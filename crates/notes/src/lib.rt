@@ -11,14 +11,13 @@ mod values;
 use scanner::{Place, Token};
 pub use values::Values;
 
-// Whether a fault was met; the slots of the signal and of the name that is being read; the values of each of the 18
-// slots.
+// Whether a fault was met; the slots of the signal and of the name that is being read; the values of each slot.
 #[derive(Drop)]
 pub struct Notes {
     pub bad: bool,
     pub signal: usize,
     pub slot: usize,
-    pub values: [Values; 18],
+    pub values: [Values; slots::COUNT],
 }
 
 impl Notes {
@@ -40,7 +39,9 @@ impl Notes {
     pub fn has(&self, slot: usize) -> bool
         ensures { result ≡ has_in self.now.values slot }
     {
-        slot < 18 && !self.values[slot].as_slice().is_empty()
+        self.values
+            .get(slot)
+            .is_some_and(|v| !v.as_slice().is_empty())
     }
 
     // Notes a fault, if there is one.
@@ -62,7 +63,9 @@ impl Notes {
     fn store(&mut self, v: u32)
         ensures { self.new ≡ stored_of self.old v }
     {
-        if self.slot < 18 {
+        // Stays: a test of the place. `get_mut` was tried: std says what it finds, and not what the slice holds after
+        // a write.
+        if self.slot < slots::COUNT {
             self.values[self.slot].push(v);
         }
     }

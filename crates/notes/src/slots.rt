@@ -1,5 +1,6 @@
 // The slots of the names that are known, each a place in the values that are kept.
-// Stays: a slot is an index, and the slot of KA is the one after its signal's; an enum would be cast at each use.
+// Stays: a slot is an index into those values, the seven lists are asked by a range of slots (PRI..UNKNOWN), and the
+// slot of KA is the one after its signal's. An enum would need a cast for each of these.
 pub const EM: usize = 0;
 
 pub const EM_KEEP: usize = 1;
@@ -36,4 +37,9 @@ pub const CI: usize = 15;
 pub const PD: usize = 16;
 
 // Any other name.
+// Stays: a slot like the others, and no None: what follows a name that is not known is stored here and read by nobody,
+// so that only `touch`, which notes the fault, asks whether a name is known.
 pub const UNKNOWN: usize = 17;
+
+// How many slots there are, that of any other name too.
+pub const COUNT: usize = UNKNOWN + 1;

@@ -19,7 +19,7 @@ use tariff::Em;
 pub struct Reading {
     pub tariff: TariffPart,
     pub burst: BurstPart,
-    pub values: [Values; 18],
+    pub values: [Values; slots::COUNT],
 }
 
 // Whether the seven lists of phsm are given.

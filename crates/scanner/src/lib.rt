@@ -10,6 +10,7 @@ mod places;
 pub use places::Place;
 
 // A piece of a text: a name by its code, a number by its value, or a mark.
+// Stays: a name by its code, one number held at a top: it is read byte by byte and may have any length, with no heap.
 #[derive(Clone, Copy)]
 pub enum Token {
     Name(u64),
