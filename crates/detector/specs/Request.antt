@@ -1,9 +1,9 @@
 -- What a detector is asked for, and the answer.
-use Rattle.std.specs.Prelude.{ℕ, Bool, true, false, if◌then◌else◌, ◌&&◌, ◌||◌, nat_lt, ◌==◌, Result, Ok, Err}
+use Rattle.std.specs.Prelude.{ℕ, Bool, true, false, if◌then◌else◌, ◌&&◌, ◌||◌, nat_lt, ◌==◌, is_some, Result, Ok, Err}
+use Rattle.std.specs.Option.{option_map_or}
 use Rattle.detector.specs.declared.request.Request.{Request}
 use Rattle.detector.specs.declared.request.Request.TheVariants.{Off, Pr, Ric}
 use Rattle.detector.specs.declared.request.Events.{Events}
-use Rattle.detector.specs.declared.request.Events.TheVariants.{Neither, Pr as PrEvent, Ric as RicEvent, Both}
 use Rattle.detector.specs.declared.request.Refusal.{Refusal}
 use Rattle.detector.specs.declared.request.Refusal.TheVariants.{OutOfRange, InvalidCombination}
 
@@ -29,12 +29,19 @@ parameter_of (Ric rit) = rit
 abbrev pub same_as : Request → Request → Bool
 same_as a b = event_of a == event_of b && parameter_of a == parameter_of b
 
--- The request that an events descriptor makes; one with both events is refused, and makes none.
+-- pr and ric together.
+abbrev pub together : Events → Bool
+together events = is_some events.pr && is_some events.ric
+
+-- Detector rp = 0, or rit over 60,000.
+abbrev pub out_of_range : Events → Bool
+out_of_range events =
+    option_map_or (λ rp. rp == 0) events.pr false || option_map_or (λ rit. nat_lt 60000 rit) events.ric false
+
+-- The request that an events descriptor makes: pr with rp, ric with rit, or off; one with both events is refused, and
+-- makes none.
 abbrev pub requested_by : Events → Request
-requested_by Neither = Off
-requested_by (PrEvent rp) = Pr rp
-requested_by (RicEvent rit) = Ric rit
-requested_by (Both rp rit) = Off
+requested_by events = if together events then Off else option_map_or Pr events.pr (option_map_or Ric events.ric Off)
 
 -- What a request is answered: ok, or no and the number of the cause.
 pub data Reply : Type 0 where
@@ -50,20 +57,6 @@ detector_number InvalidCombination = 459
 abbrev pub reply_of : Result Unit Refusal → Reply
 reply_of (Ok u) = ok
 reply_of (Err r) = no (detector_number r)
-
--- pr and ric together.
-abbrev pub together : Events → Bool
-together Neither = false
-together (PrEvent rp) = false
-together (RicEvent rit) = false
-together (Both rp rit) = true
-
--- Detector rp = 0, or rit over 60,000.
-abbrev pub out_of_range : Events → Bool
-out_of_range Neither = false
-out_of_range (PrEvent rp) = rp == 0
-out_of_range (RicEvent rit) = nat_lt 60000 rit
-out_of_range (Both rp rit) = rp == 0 || nat_lt 60000 rit
 
 -- 459 comes before 10.
 abbrev pub reply_to : Events → Reply

@@ -33,7 +33,7 @@ pub struct Detector {
 }
 
 // What a request hands back.
-// Stays: the paper names methods that hand the detector back with the answer, and so for a tick and an audit.
+// Stays: a detector's calls hand it back with what they tell, as the line's do, for which the paper names that form.
 #[derive(Clone, Copy, PartialEq, Eq, Debug)]
 pub struct Requested {
     pub detector: Detector,

@@ -11,13 +11,13 @@ pub enum Request {
     Ric { rit: u32 },
 }
 
-// The detector's part of an events descriptor.
+// The detector's part of an events descriptor: the events that it asks for.
 #[derive(Clone, Copy, PartialEq, Eq, Debug)]
-pub enum Events {
-    Neither,
-    Pr { rp: u32 },
-    Ric { rit: u32 },
-    Both { rp: u32, rit: u32 },
+pub struct Events {
+    // pr, with its rp.
+    pub pr: Option<u32>,
+    // ric, with its rit.
+    pub ric: Option<u32>,
 }
 
 // Why a descriptor is refused.
@@ -51,13 +51,13 @@ impl Events {
             (λ request. (request ≡ requested_by self) × (reply_to self ≡ ok))
             (λ refusal. reply_to self ≡ no (detector_number refusal)) }
     {
-        match self {
-            Events::Neither => Ok(Request::Off),
-            Events::Pr { rp: 0 } => Err(Refusal::OutOfRange),
-            Events::Pr { rp } => Ok(Request::Pr { rp }),
-            Events::Ric { rit } if rit <= 60000 => Ok(Request::Ric { rit }),
-            Events::Ric { .. } => Err(Refusal::OutOfRange),
-            Events::Both { .. } => Err(Refusal::InvalidCombination),
+        match (self.pr, self.ric) {
+            (Some(_), Some(_)) => Err(Refusal::InvalidCombination),
+            (Some(0), None) => Err(Refusal::OutOfRange),
+            (Some(rp), None) => Ok(Request::Pr { rp }),
+            (None, Some(rit)) if rit <= 60000 => Ok(Request::Ric { rit }),
+            (None, Some(_)) => Err(Refusal::OutOfRange),
+            (None, None) => Ok(Request::Off),
         }
     }
 }

@@ -8,6 +8,33 @@ use detector::Detector;
 use detector::request::Events;
 use std::io;
 
+// The descriptor with neither event.
+const NEITHER: Events = Events {
+    pr: None,
+    ric: None,
+};
+
+fn pr(rp: u32) -> Events {
+    Events {
+        pr: Some(rp),
+        ..NEITHER
+    }
+}
+
+fn ric(rit: u32) -> Events {
+    Events {
+        ric: Some(rit),
+        ..NEITHER
+    }
+}
+
+fn both(rp: u32, rit: u32) -> Events {
+    Events {
+        pr: Some(rp),
+        ric: Some(rit),
+    }
+}
+
 // A request, and its answer written.
 fn ask(rt: &impl Print, d: Detector, events: Events) -> io::Result<Detector> {
     let r = d.request(events);
@@ -47,20 +74,20 @@ fn refusals(rt: &impl Print, d: Detector) -> io::Result<Detector> {
     // audit -1 0 0: "While it is off, ticks change nothing."
     let d = audit(rt, pulse_after(rt, d, 5)?)?;
     // no 459: "pr and ric together"
-    let d = ask(rt, d, Events::Both { rp: 1, rit: 1 })?;
+    let d = ask(rt, d, both(1, 1))?;
     // no 459: "459 comes before 10"
-    let d = ask(rt, d, Events::Both { rp: 0, rit: 60001 })?;
+    let d = ask(rt, d, both(0, 60001))?;
     // no 10: "detector rp = 0"
-    let d = ask(rt, d, Events::Pr { rp: 0 })?;
+    let d = ask(rt, d, pr(0))?;
     // no 10: "rit over 60,000"
-    let d = ask(rt, d, Events::Ric { rit: 60001 })?;
+    let d = ask(rt, d, ric(60001))?;
     // audit -1 0 0: a refusal's "Left as it was" is the detector
     audit(rt, d)
 }
 
 fn intervals(rt: &impl Print, d: Detector) -> io::Result<Detector> {
     // ok, audit -1 0 0: "another non-off one zeroes the counters and sets lri to −1"
-    let d = audit(rt, ask(rt, d, Events::Ric { rit: 3 })?)?;
+    let d = audit(rt, ask(rt, d, ric(3))?)?;
     // event 0 1, audit 0 1 0: "a pulse at lri −1 gives event (0, pcslr) and lri 0"; "Each event zeroes pcslr."
     let d = audit(rt, pulse_after(rt, d, 9)?)?;
     // event 20 1, audit 20 2 0: "at lri 0, event (e, pcslr) and lri = e"
@@ -86,9 +113,9 @@ fn silences(rt: &impl Print, d: Detector) -> io::Result<Detector> {
 
 fn requests(rt: &impl Print, d: Detector) -> io::Result<Detector> {
     // ok, audit 25 6 0: "The same request again changes nothing"
-    let d = audit(rt, ask(rt, d, Events::Ric { rit: 3 })?)?;
+    let d = audit(rt, ask(rt, d, ric(3))?)?;
     // ok, audit -1 0 0: "another non-off one zeroes the counters and sets lri to −1"
-    let d = audit(rt, ask(rt, d, Events::Ric { rit: 60000 })?)?;
+    let d = audit(rt, ask(rt, d, ric(60000))?)?;
     // event 0 1: "a pulse at lri −1 gives event (0, pcslr)"
     let d = pulse_after(rt, d, 0)?;
     // event 5 1: "at lri 0, event (e, pcslr)"
@@ -96,22 +123,22 @@ fn requests(rt: &impl Print, d: Detector) -> io::Result<Detector> {
     // audit 5 3 1: "only if e < lri − rit": 1 is not below 5 − 60000
     let d = audit(rt, pulse_after(rt, d, 0)?)?;
     // ok, audit -1 3 1: "off sets lri to −1 and leaves the counters"
-    let d = audit(rt, ask(rt, d, Events::Neither)?)?;
+    let d = audit(rt, ask(rt, d, NEITHER)?)?;
     // audit -1 3 1: "While it is off, ticks change nothing."
     let d = audit(rt, pulse_after(rt, d, 9)?)?;
     // ok, audit -1 0 0: "another non-off one zeroes the counters and sets lri to −1"
-    let d = audit(rt, ask(rt, d, Events::Ric { rit: 60000 })?)?;
+    let d = audit(rt, ask(rt, d, ric(60000))?)?;
     // event 0 1: "a pulse at lri −1 gives event (0, pcslr)"
     pulse_after(rt, d, 0)
 }
 
 fn reports(rt: &impl Print, d: Detector) -> io::Result<Detector> {
     // ok, audit -1 0 0: "another non-off one zeroes the counters and sets lri to −1"
-    let d = audit(rt, ask(rt, d, Events::Pr { rp: 2 })?)?;
+    let d = audit(rt, ask(rt, d, pr(2))?)?;
     // audit -1 1 1: "Each pulse adds 1 to both counters"; lri "leaves −1 only under ric"
     let d = audit(rt, pulse_after(rt, d, 3)?)?;
     // ok, audit -1 1 1: "The same request again changes nothing"
-    let d = audit(rt, ask(rt, d, Events::Pr { rp: 2 })?)?;
+    let d = audit(rt, ask(rt, d, pr(2))?)?;
     // report, audit -1 2 0: "If a period rp is set and pcslr then equals rp, a report is given and pcslr becomes 0"
     audit(rt, pulse_after(rt, d, 0)?)
 }

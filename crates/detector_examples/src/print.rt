@@ -1,4 +1,5 @@
 // One line of output for each answer.
+// Stays: no Display, since these types are std's and detector's: each would need a wrapper here for its one format.
 use detector::Audited;
 use detector::notification::Notification;
 use detector::request::Answer;
