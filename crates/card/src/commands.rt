@@ -18,8 +18,8 @@ fn put_counters(out: &mut Outlet<Stdout>, audit: Audited) -> io::Result<()> {
 
 impl Card {
     // Obeys a command on its line. A descriptor may wait for phase lines first.
-    // Stays: arms as in meter, where a command has no target. A function for both has to have a contract, and std says
-    // nothing of what goes to a `Stdout`.
+    // Stays: arms as in meter, which has one line and takes each descriptor. A function for both would take closures for
+    // where the line lies and for how a descriptor is given to it, and is no plainer.
     fn on(
         &mut self,
         target: Target,
@@ -73,8 +73,8 @@ impl Card {
     }
 
     // Obeys a descriptor that waits, once its phase lines have come.
-    // Stays: steps as in meter, where no target stands beside what waits; a function for both needs a contract, as `on`
-    // does.
+    // Stays: steps as in meter, where no target stands beside what waits; a function for both would take the closures
+    // of `on`.
     fn gather(&mut self, pending: Pending, out: &mut Outlet<Stdout>) -> io::Result<()> {
         if pending.waiting.missing > 0 {
             self.pending = Some(pending);

@@ -12,8 +12,8 @@ use lines::Input;
 use outlet::Outlet;
 use std::io;
 
-// Stays: each program has its main, since only a main gets the runtime. A function for all that takes reader and writer
-// could say nothing of what was written.
+// Stays: each program has its main, since only a main gets the runtime. Its lines name a reader, a writer and a program;
+// a function for all would be given the same three.
 fn main(rt: HostRuntime) -> io::Result<()> {
     let mut input = Input::<_, 65536>::new(rt.stdin());
     let mut out = Outlet::new(rt.stdout());

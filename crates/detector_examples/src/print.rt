@@ -1,5 +1,6 @@
 // One line of output for each answer.
-// Stays: no Display, since these types are std's and detector's: each would need a wrapper here for its one format.
+// Stays: no Display, since these types are std's and detector's: each would need a wrapper here for its one format, or
+// would stand in detector with words of this program.
 use detector::Audited;
 use detector::notification::Notification;
 use detector::request::Answer;

@@ -81,8 +81,8 @@ impl Gateway {
     }
 
     // Obeys a command on the line. A descriptor may wait for phase lines first.
-    // Stays: arms as in card, where a command has its target beside it. A function for both has to have a contract, and
-    // std says nothing of what goes to a `Stdout`.
+    // Stays: arms as in card, where a target says where the line lies and how a descriptor is given to it. A function
+    // for both would take closures for the two, and is no plainer.
     fn on(&mut self, line: Line, command: Command, out: &mut Outlet<Stdout>) -> io::Result<()> {
         match command {
             Command::Configure(given) => self.configure(given, out),
@@ -124,8 +124,8 @@ impl Gateway {
     }
 
     // Obeys a descriptor that waits, once its phase lines have come.
-    // Stays: steps as in card, which has a target beside what waits; a function for both needs a contract, as `on`
-    // does.
+    // Stays: steps as in card, which has a target beside what waits; a function for both would take the closures of
+    // `on`.
     fn gather(&mut self, waiting: Waiting, out: &mut Outlet<Stdout>) -> io::Result<()> {
         if waiting.missing > 0 {
             self.waiting = Some(waiting);

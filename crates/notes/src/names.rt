@@ -7,6 +7,7 @@ ghost use Rattle.grammar.specs.Meaning.{em_items, mpb_items, phsm_items};
 use super::slots;
 
 // The codes of the names, as the scanner makes them: the letters' places in the alphabet (a is 1, z is 26), in base 32.
+// Stays: codes, as the `Token` of the scanner has them.
 const EM: u64 = 5 * 32 + 13;
 
 const MPB: u64 = (13 * 32 + 16) * 32 + 2;

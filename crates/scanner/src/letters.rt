@@ -20,4 +20,5 @@ pub(crate) fn digit(value: u64, b: u8) -> u64
 }
 
 // The code of amet: the places in the alphabet of a, m, e and t, in base 32.
+// Stays: a code, as that of each name.
 pub(crate) const AMET: u64 = ((1 * 32 + 13) * 32 + 5) * 32 + 20;
