@@ -33,8 +33,8 @@ impl Dispatcher {
             };
         }
         let mut dispatcher = self;
-        // Stays: by its place in the row, which is also its place in what waits: the row is its caller's, and may be
-        // shorter.
+        // Stays: by the place. `zip` with what waits was tried: std says what each reference holds when it is lent, and
+        // after the loop only the length of the row is known, not its lines.
         for (i, line) in row.iter_mut().enumerate() {
             dispatcher.gather(i, lent::tick_in_place(line));
         }
