@@ -2,6 +2,7 @@
 #![tactic(auto)]
 
 ghost use Rattle.std.specs.Prelude.{◌≡◌, replicate};
+ghost use Rattle.lines.specs.Reads.{Onward};
 ghost use Rattle.lines.specs.Spans.{begun, next_of, over_of, part};
 
 mod buffer;
@@ -9,10 +10,12 @@ mod progress;
 mod reading;
 mod squeezing;
 
-use buffer::{line_feed, part};
+pub use buffer::text;
 pub use progress::Progress;
+use std::io::Read;
 
-// A reader, a buffer of N bytes into which it is read, and how far it is read and taken.
+// A reader, a buffer of N bytes into which it is read, and how far it is read and taken. A caller that has a buffer of its
+// own lends it to a `Progress` at each call.
 #[derive(Drop)]
 pub struct Input<R, const N: usize> {
     pub from: R,
@@ -44,30 +47,32 @@ impl<R, const N: usize> Input<R, N> {
     }
 
     // The next line, if all of it was read or dropped.
-    #[tactic(auto, using(crate::proofs::FeedLaws::line_size, crate::proofs::PartLaws::length_part))]
     pub fn next(&self) -> Option<Span>
         ensures { result ≡ next_of self.now.buf self.now.at }
     {
-        let held = part(&self.buf, self.at.start, self.at.end);
-        let size = line_feed(held).or(self.at.is_last().then_some(held.len()))?;
-        Some(Span {
-            whole: !self.at.dropped,
-            from: self.at.start,
-            to: self.at.start + size,
-        })
+        self.at.next(&self.buf)
     }
 
     // Whether the input has ended and no line is left.
     pub fn is_over(&self, line: Option<Span>) -> bool
         ensures { result ≡ over_of self.now.at line }
     {
-        line.is_none() && !self.at.came
+        self.at.is_over(line)
     }
 
     // The bytes of a line.
     pub fn text(&self, line: Span) -> &[u8]
         ensures { result.now ≡ part line.from line.to self.now.buf }
     {
-        part(&self.buf, line.from, line.to)
+        text(&self.buf, line)
+    }
+}
+
+impl<R: Read, const N: usize> Input<R, N> {
+    // Goes past a line, or reads once more where there is none.
+    pub fn onward(&mut self, line: Option<Span>)
+        ensures { Onward line self.old.buf self.old.at self.new.buf self.new.at }
+    {
+        self.at = self.at.onward(&mut self.from, &mut self.buf, line);
     }
 }

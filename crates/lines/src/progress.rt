@@ -1,7 +1,10 @@
-// How far an input is read and taken.
+// How far an input is read into a buffer and taken, with a buffer that is lent at each call.
 ghost use Rattle.std.specs.Prelude.{◌≡◌};
-ghost use Rattle.lines.specs.Spans.{at_front, begun, last_of, past_of};
+ghost use Rattle.lines.specs.Spans.{at_front, begun, last_of, next_of, over_of, past_of};
 ghost use Rattle.lines.specs.Rooms.{fed_of};
+
+use super::Span;
+use super::buffer::{line_feed, part};
 
 // The bytes `start` to `end` of the buffer are read and not yet taken. `dropped` is set within a line that is too long
 // for the buffer, of which the first bytes were dropped, and `came` where the last read brought something.
@@ -29,7 +32,7 @@ impl Progress {
     }
 
     // Before the first read.
-    pub(crate) fn begun() -> Progress
+    pub fn begun() -> Progress
         ensures { result ≡ begun }
     {
         Progress::at_front(0, false)
@@ -40,6 +43,27 @@ impl Progress {
         ensures { result ≡ last_of self }
     {
         !self.came && (self.dropped || self.start < self.end)
+    }
+
+    // The next line, if all of it was read into this buffer or dropped.
+    #[tactic(auto, using(crate::proofs::FeedLaws::line_size, crate::proofs::PartLaws::length_part))]
+    pub fn next(self, buf: &[u8]) -> Option<Span>
+        ensures { result ≡ next_of buf.now self }
+    {
+        let held = part(buf, self.start, self.end);
+        let size = line_feed(held).or(self.is_last().then_some(held.len()))?;
+        Some(Span {
+            whole: !self.dropped,
+            from: self.start,
+            to: self.start + size,
+        })
+    }
+
+    // Whether the input has ended and no line is left.
+    pub fn is_over(self, line: Option<Span>) -> bool
+        ensures { result ≡ over_of self line }
+    {
+        line.is_none() && !self.came
     }
 
     // Past a line that ends at `to`, and its line feed.
