@@ -8,8 +8,8 @@ use super::buffer::{line_feed, part};
 
 // The bytes `start` to `end` of the buffer are read and not yet taken. `dropped` is set within a line that is too long
 // for the buffer, of which the first bytes were dropped, and `came` where the last read brought something.
-// Stays: no invariant says that the places lie in the buffer, in this order: each function takes any places, and a type
-// with an invariant asks more of its callers.
+// Stays: the buffer is lent at each call, and no invariant says that the places lie in it, in this order. One of any
+// length can be lent, with any places; a type that owns its buffer, or has an invariant, asks more of its callers.
 #[derive(Clone, Copy)]
 pub struct Progress {
     pub start: usize,
