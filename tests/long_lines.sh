@@ -1,6 +1,6 @@
 #!/bin/sh
-# Runs card and texts on lines that are longer than their input buffer, each with what it is to be answered.
-# Use: tests/long_lines.sh, from the root, once card and texts are built
+# Runs card, texts and by_count on lines that are longer than their input buffer, each with what it is to be answered.
+# Use: tests/long_lines.sh, from the root, once card, texts and by_count are built
 set -eu
 work=$(mktemp -d)
 trap 'rm -rf "$work"' EXIT
@@ -47,3 +47,10 @@ says "SG{amet/em{pri=${zeros}400}}" '12'
 says "SG{$letters}" 'too long'
 says "SG{}" 'none none'
 tests/vectors.sh crates/texts/out/texts "$work/texts.in"
+
+script=by_count
+says "${blanks}100 7 3${blanks}${zeros}25 180 ${zeros}1000${blanks}" '1000 3 2 2 5 25 175 | 1000 1 1 1 0 5 5'
+says "100 7 3 25 180 1000$zeros" bad
+says "100 7 3 25 180 1000 $letters" bad
+says "100 7 3 0 180 1000" 'no 18'
+tests/vectors.sh crates/by_count/out/by_count "$work/by_count.in"

@@ -1,7 +1,8 @@
-// A call on a line, each step checked from the contracts alone: an em with an add-on charge of two pulses.
+// A call on a line, each step checked from the contracts alone: an em with an add-on charge of two pulses. And phases
+// that charge by the count of a phase, checked from the contracts and the claim of phase_total.
 #![tactic(auto)]
 
-ghost use Rattle.std.specs.Prelude.{◌≡◌};
+ghost use Rattle.std.specs.Prelude.{◌≡◌, true};
 ghost use Rattle.phase_lists.specs.Lists.{no_lists};
 ghost use Rattle.line.specs.Lines.{describe_of};
 ghost use Rattle.line_examples.specs.Tells.{is_tariff, accepts, refuses};
@@ -11,6 +12,7 @@ use check::expect;
 use descriptor::{BurstPart, Configuration, Descriptor, Hook, TariffPart};
 use line::{Line, Verdict};
 use phase_lists::PhaseLists;
+use phase_total::Charging;
 use tariff::Em;
 
 fn is_tariff(front: Option<Front>) -> bool
@@ -42,6 +44,23 @@ fn ask(line: Line, tariff: TariffPart, burst: BurstPart) -> line::Answered
     })
 }
 
+// The line takes the phases that charge by the count of a phase: 7/3 pulses in each 25 of 180 seconds.
+fn takes_count(line: Line) -> bool
+    requires { line.spacing ≡ 100 }
+    ensures { result ≡ true }
+{
+    let charging = Charging {
+        a: 7,
+        b: 3,
+        ci: 25,
+        pd: 180,
+        pri: 1000,
+    };
+    let phases = charging.phases(line.spacing).unwrap();
+    let given = phases.descriptor(TariffPart::Phased, BurstPart::Keep);
+    accepted(0, line.describe(given).verdict)
+}
+
 #[tactic(auto, unfolding(burst::specs::Bursts::aged_of, ticking::specs::Moves::burst_after, line::specs::Lines::burst_changed, burst::specs::Bursts::completes_of, line::specs::Lines::describe_of, rules::specs::Rules::distance_of, steps::specs::Steps::due_of, tariff::specs::Tariffs::em_of, line::specs::Lines::fresh_line, line::specs::Lines::hook_of, line::specs::Lines::make_of, ticking::specs::Moves::moved_by, descriptor::specs::Refusals::ruling, rules::specs::Rules::sound_em, steps::specs::Steps::step_of, line::specs::Lines::tariff_changed, line::specs::Lines::tick_of))]
 fn main() {
     let given = Configuration {
@@ -55,6 +74,7 @@ fn main() {
         period: 199,
     });
     expect(refused(4, ask(fresh, early, BurstPart::Keep).verdict));
+    expect(takes_count(fresh));
     let em = TariffPart::Em(Em {
         count: 0,
         period: 400,

@@ -85,8 +85,6 @@ fn main(rt: HostRuntime) -> io::Result<()> {
     print_tariff(&rt, "6.5.4.3, 43/10 over 10, 17 intervals", 43, 10, 10, 17)?;
     print_tariff(&rt, "6.5.4.4.1, window 1, 7/3 over 7", 7, 3, 7, 7)?;
     print_tariff(&rt, "6.5.4.4.1, window 2, 4/5 over 1", 4, 5, 1, 1)?;
-    println!(&rt;
-        "  (17 pulses; the scope takes 6.5.4.4.2, a short last interval charged in full)"
-    )?;
+    println!(&rt; "  (17 pulses; by_count writes the second window as one interval of 1 pulse)")?;
     print_tariff(&rt, "6.5.4.4.2, 7/3 over 7, 8 intervals", 7, 3, 7, 8)
 }

@@ -101,7 +101,7 @@ impl Reading {
     pub fn phases(&self, spacing: u32) -> PhaseTable
         ensures { result ≡ table_for spacing self.now.tariff (lists_of_reading self.now) }
     {
-        // Stays: seven lists by slot; phase_lines lends seven by name, and an index in both would lose the names there.
+        // Stays: seven lists by slot; phases lends seven by name, and an index in both would lose the names there.
         let lists = PhaseLists {
             pri: self.values[slots::PRI].as_slice(),
             pcx: self.values[slots::PCX].as_slice(),

@@ -1,2 +1,2 @@
 -- The files of this folder.
-pub mod Columns
+pub mod Gathered

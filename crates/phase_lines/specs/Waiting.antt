@@ -7,12 +7,13 @@ use Rattle.descriptor.specs.declared.TariffPart.TheVariants.{Phased}
 use Rattle.descriptor.specs.declared.Descriptor.{Descriptor}
 use Rattle.grammar.specs.Meaning.{Reading, descriptor}
 use Rattle.line.specs.Lines.{meant_by}
-use Rattle.phase_lines.specs.declared.waiting.Waiting.{Waiting}
-use Rattle.phase_lines.specs.Gathering.{none_read, with_line, lists_of_phases}
+use Rattle.phase_lines.specs.declared.Waiting.{Waiting}
+use Rattle.phases.specs.Holding.{none_held, lists_of_phases}
+use Rattle.phase_lines.specs.Gathering.{with_line}
 
 -- before the first of k lines
 abbrev pub waiting_for : ℕ → BurstPart → Waiting
-waiting_for k u = record { missing = k; burst = u; phases = Some none_read }
+waiting_for k u = record { missing = k; burst = u; phases = Some none_held }
 
 -- with one line more, so that one fewer is missing
 abbrev pub waiting_with : Waiting → Option Phase → Waiting

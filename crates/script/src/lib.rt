@@ -1,4 +1,4 @@
-// The languages of the programs `meter` and `card`: what each line of their input asks.
+// The languages of the programs `meter` and `card`: what each line of their input asks. `by_count` reads numbers with it.
 #![tactic(auto)]
 
 use arrayvec::ArrayVec;
@@ -15,7 +15,9 @@ mod words;
 
 pub use card_lines::read_card;
 pub use commands::read_command;
+pub use numbers::next_number;
 pub use phases::read_phase;
+pub use words::ended;
 
 // What a line that `meter` reads asks. `phases` is the number of phase lines that follow.
 // Stays: no line follows `ph 0` and the other tariffs alike, so 0 is a number here and no case of its own. Setting and

@@ -20,7 +20,7 @@ pub(crate) fn number_in(word: &[u8]) -> Option<u32>
 }
 
 // Reads a number.
-pub(crate) fn next_number(line: &[u8]) -> Option<(u32, &[u8])>
+pub fn next_number(line: &[u8]) -> Option<(u32, &[u8])>
     ensures read { told result ≡ number (words_of line.now) }
     ensures past { IfSome result (λ r. r.1.now ≡ past_first line.now) }
 {

@@ -37,7 +37,7 @@ pub(crate) fn next_word(line: &[u8]) -> (&[u8], &[u8])
 }
 
 // Whether no word is left.
-pub(crate) fn ended(line: &[u8]) -> bool
+pub fn ended(line: &[u8]) -> bool
     ensures { result ≡ no_word (words_of line.now) }
 {
     past_blanks(line).is_empty()
