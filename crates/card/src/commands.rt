@@ -54,6 +54,7 @@ impl Card {
             CardCommand::Configure(given) => self.configure(given, out),
             CardCommand::Tick(n) => self.run(n, out),
             CardCommand::Group { interval, places } => {
+                let places = script::read_places(places);
                 let row = self.lines.as_mut_slice();
                 let verdict = group::rate(row, places.as_slice(), interval);
                 put_answer(out, Answer::from(verdict))

@@ -12,7 +12,7 @@ use scanner::{Place, Token};
 pub use values::Values;
 
 // Whether a fault was met; the slots of the signal and of the name that is being read; the values of each slot.
-#[derive(Drop)]
+#[derive(Clone, Copy)]
 pub struct Notes {
     pub bad: bool,
     pub signal: usize,

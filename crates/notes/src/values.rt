@@ -3,13 +3,13 @@ ghost use Rattle.std.specs.Prelude.{◌≡◌, ◌≤◌, length};
 ghost use Rattle.grammar.specs.Meaning.{first_or};
 ghost use Rattle.notes.specs.Noting.{no_values, pushed};
 
-use arrayvec::ArrayVec;
+use short_list::ShortList;
 use std::marker::Model;
 
 // The first nine values that a name has. Their place is fixed, so that no text fails for want of memory.
-#[derive(Drop)]
+#[derive(Clone, Copy)]
 pub struct Values {
-    items: ArrayVec<u32, 9>,
+    items: ShortList<9>,
 }
 
 impl Model for Values {
@@ -17,7 +17,9 @@ impl Model for Values {
 
     ghost Value = { List ℕ };
 
-    ghost view = { λ v. v.items.items };
+    ghost view = { λ v. v.items };
+
+    ghost inverse = { λ l. record { items = l } };
 }
 
 impl Default for Values {
@@ -25,7 +27,7 @@ impl Default for Values {
 
     fn default() -> Self {
         Values {
-            items: ArrayVec::new(),
+            items: ShortList::new(),
         }
     }
 }
@@ -35,9 +37,7 @@ impl Values {
     pub fn push(&mut self, v: u32)
         ensures { self.new ≡ pushed self.old v }
     {
-        if !self.items.is_full() {
-            self.items.push(v);
-        }
+        self.items.push(v);
     }
 
     // Those that are kept.

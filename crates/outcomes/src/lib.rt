@@ -15,7 +15,7 @@ use tariff::Em;
 
 // The parts of a descriptor that was read, and what is kept of the values of each name, by its slot. The values of the
 // seven phase lists are those of a phased tariff.
-#[derive(Drop)]
+#[derive(Clone, Copy)]
 pub struct Reading {
     pub tariff: TariffPart,
     pub burst: BurstPart,

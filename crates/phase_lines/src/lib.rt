@@ -9,7 +9,7 @@ use phases::Phases;
 use tariff::Phase;
 
 // How many phase lines are missing, the burst part, and the phases that were read, unless a line was bad.
-#[derive(Drop)]
+#[derive(Clone, Copy)]
 pub struct Waiting {
     pub missing: u32,
     pub burst: BurstPart,

@@ -15,7 +15,7 @@ use tariff::Phase;
 // The numbers of the first nine phases, by name.
 // Stays: seven lists and no list of phases, since a descriptor lends seven. They stand here by name, and in outcomes by
 // slot: one function that lends either needs an index in both, which would lose the names here.
-#[derive(Default, Drop)]
+#[derive(Clone, Copy, Default)]
 pub struct Phases {
     pub pri: Values,
     pub pcx: Values,

@@ -1,7 +1,6 @@
 -- The text of a card's line is the end of the line from one of its words on, and it begins with `SG`.
 use Rattle.std.proofs.Common.{◌≡◌, refl, sym, ap, ◌∙◌, ℕ, zero, suc, ◌+◌, ◌-◌, ◌≤◌, Bool, true, false, List, [], ◌∷◌, length, drop, drop-drop, arith}
 use Rattle.std.specs.Prelude.{Option, Some, None, ◌==◌, if◌then◌else◌}
-use Rattle.arrayvec.specs.ArrayVec.{ArrayVec}
 use Rattle.std.proofs.lemmas.Bool.Decides.{nat_tests}
 use Rattle.script.specs.Words.{blank, same, words_of}
 use Rattle.script.specs.Numbers.{number_of}
@@ -218,7 +217,7 @@ at-sound l m e = one (number_of (first (words_of m)))
 group-sound : (l : List ℕ) (ws : List (List ℕ)) → Sound l (group ws)
 group-sound l ws = one (grouped ws)
   where
-    one : (p : Parsed (ℕ × ArrayVec ℕ)) → Sound l (after p (λ g. give (Group g.0 g.1)))
+    one : (p : Parsed (ℕ × List ℕ)) → Sound l (after p (λ g. give (Group g.0 g.1)))
     one None = tt
     one (Some (g, vs)) = tt
 

@@ -1,7 +1,6 @@
 -- The lines that `card` reads.
 use Rattle.std.specs.Prelude.{ℕ, zero, suc, Bool, List, [], ◌∷◌, take}
 use Rattle.std.specs.Prelude.{Option, Some, None, if◌then◌else◌}
-use Rattle.arrayvec.specs.ArrayVec.{ArrayVec}
 use Rattle.descriptor.specs.declared.Configuration.{Configuration}
 use Rattle.script.specs.Words.{same, words_of}
 use Rattle.script.specs.Runs.{past_blanks, past_first}
@@ -25,7 +24,7 @@ pub data CardLine : Type 0 where
   Audit : (place : ℕ) → CardLine
   Text : (target : Target) (text : List ℕ) → CardLine
   Tick : (ticks : ℕ) → CardLine
-  Group : (interval : ℕ) (places : ArrayVec ℕ) → CardLine
+  Group : (interval : ℕ) (places : List ℕ) → CardLine
 
 -- what a command of `meter` asks of the row: cfg adds a line to it, and run makes ticks of it
 abbrev pub of_row : Command → Option CardLine
@@ -105,16 +104,16 @@ numbers (suc k) = unless [] (do
   ns ← numbers k
   give (n ∷ ns))
 
--- the places of a group
-abbrev pub places_of : List ℕ → ArrayVec ℕ
-places_of ps = record { items = ps }
+-- the places of a group, as they stand in a text: none where it is no list of places
+abbrev pub places_in : List ℕ → List ℕ
+places_in l = elim (numbers 64 (words_of l)) [ None ↦ [] | Some (ps, ws) ↦ ps ]
 
 -- what follows `group`: P, and none to 64 places
-abbrev pub grouped : Reader (ℕ × ArrayVec ℕ)
+abbrev pub grouped : Reader (ℕ × List ℕ)
 grouped = do
   p ← number
   ps ← numbers 64
-  give (p, places_of ps)
+  give (p, ps)
 
 -- `group P I J ..`
 abbrev pub group : Reader CardLine

@@ -8,7 +8,7 @@ use Rattle.descriptor.specs.declared.Hook.TheVariants.{Stop}
 use Rattle.script.specs.Words.{words_of}
 use Rattle.script.specs.Commands.{configuration, command_of}
 use Rattle.script.specs.Readers.{whole}
-use Rattle.script.specs.Cards.{CardLine, Add, On, Audit, Text, Tick, Group, target, places_of, group, card_command_of}
+use Rattle.script.specs.Cards.{CardLine, Add, On, Audit, Text, Tick, Group, target, group, card_command_of}
 use Rattle.script.specs.declared.Command.{Command}
 use Rattle.script.specs.declared.Command.TheVariants.{Configure, Period, NoPeriod, Describe, OnHook, Run}
 use Rattle.script.specs.declared.Giving.{Giving}
@@ -125,7 +125,7 @@ card-bad = refl
 
 -- the command of a group and its places
 abbrev group_of : ℕ → List ℕ → Option CardLine
-group_of p ps = Some (Group p (places_of ps))
+group_of p ps = Some (Group p ps)
 
 -- lines of a group: some places, none, and one that is named twice
 pub card-group :

@@ -1,8 +1,8 @@
 // The languages of the programs `meter` and `card`: what each line of their input asks. `by_count` reads numbers with it.
 #![tactic(auto)]
 
-use arrayvec::ArrayVec;
 use descriptor::{BurstPart, Configuration, Hook, TariffPart};
+use short_list::ShortList;
 
 mod card_lines;
 mod commands;
@@ -15,6 +15,7 @@ mod words;
 
 pub use card_lines::read_card;
 pub use commands::read_command;
+pub use groups::read_places;
 pub use numbers::next_number;
 pub use phases::read_phase;
 pub use words::ended;
@@ -37,7 +38,7 @@ pub enum Command {
 }
 
 // The places of a group.
-pub type Places = ArrayVec<u32, 64>;
+pub type Places = ShortList<64>;
 
 // How a descriptor is given to a line: to be taken, to be asked only, or to be committed with the ticket of an ask.
 #[derive(Clone, Copy, PartialEq, Eq, Debug)]
@@ -54,13 +55,14 @@ pub struct Target {
     pub giving: Giving,
 }
 
-// What a line of a card's script asks. Only a descriptor is asked or committed. A text is the end of the line.
-#[derive(Clone, PartialEq, Eq, Debug, Drop)]
+// What a line of a card's script asks. Only a descriptor is asked or committed. A text is the end of the line, and so is
+// the text of a group's places, which `read_places` reads.
+#[derive(Clone, Copy, PartialEq, Eq, Debug)]
 pub enum CardCommand<'a> {
     Configure(Configuration),
     On { target: Target, command: Command },
     Audit(u32),
     Text { target: Target, text: &'a [u8] },
     Tick(u32),
-    Group { interval: u32, places: Places },
+    Group { interval: u32, places: &'a [u8] },
 }

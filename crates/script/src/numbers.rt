@@ -12,11 +12,20 @@ use super::words::next_word;
 pub(crate) fn number_in(word: &[u8]) -> Option<u32>
     ensures { result ≡ number_of word.now }
 {
-    // `parse` would take a sign.
-    if word.starts_with(b"+") {
+    if word.is_empty() {
         return None;
     }
-    std::str::from_utf8(word).ok()?.parse::<u32>().ok()
+    let mut value: u64 = 0;
+    for &b in word {
+        if !b.is_ascii_digit() {
+            return None;
+        }
+        value = 10 * value + u64::from(b - b'0');
+        if value > 4294967295 {
+            return None;
+        }
+    }
+    Some(value as u32)
 }
 
 // Reads a number.
