@@ -1,19 +1,21 @@
 -- Laws of what a group is answered, place by place of its list.
 use mathlib.Core.Path.{◌≡◌, refl, sym, ap, ◌∙◌}
-use mathlib.Core.Bool.{false}
+use mathlib.Core.Bool.{Bool, true, false}
 use mathlib.Core.List.{List}
 use Prim.Native.Nat.{ℕ, ◌+◌, ◌≤◌, ◌<◌}
-use borrow.Author.Tests.{lt-leb, le-leb}
+use native.Mathlib.Omega.{arith}
+use borrow.Author.Tests.{lt-ltb, lt-leb, le-leb}
 use lib.ListN.{length, get_or, drop}
-use Rattle.std.specs.Prelude.{if◌then◌else◌, Ok, Err}
+use Rattle.std.specs.Prelude.{if◌then◌else◌, Ok, Err, is_ok}
 use Rattle.std.specs.Result.{result_and}
 use Rattle.std.proofs.lemmas.List.{at_drop_more, drop_all}
 use Rattle.descriptor.specs.declared.Refusal.TheVariants.{Place}
 use Rattle.line.specs.Lines.{Verdict, blank_line}
 use Rattle.line.specs.declared.Line.{Line}
 use Rattle.dispatcher.specs.Dispatch.{bad_row}
-use Rattle.group.specs.Groups.{rate_of, outside, first_refusal, verdict_of}
-use Rattle.group.proofs.RateLaws.{rate-plain}
+use Rattle.group.specs.Groups.{rate_of, named, outside, first_refusal, verdict_of, rated_row}
+use Rattle.group.specs.Marks.{named_low}
+use Rattle.group.proofs.RateLaws.{rate-plain, rated_alike}
 
 and_assoc : (u v w : Verdict) → result_and (result_and u v) w ≡ result_and u (result_and v w)
 and_assoc (Ok k) v w = refl
@@ -57,3 +59,13 @@ module _ (ls : List Line) (P : ℕ) where
   pub plain_more : (v : Verdict) (p : ℕ) → result_and v (Ok 0) ≡ v → result_and (result_and v (answers p)) (Ok 0) ≡ result_and v (answers p)
   plain_more (Ok k) p e = rate-plain (get_or ls p blank_line) P
   plain_more (Err r) p e = refl
+
+-- a row that is taken has at most 64 lines, so each of its places has a bit
+pub rated-named : (ls : List Line) (ps : List ℕ) (P : ℕ) → is_ok (verdict_of ls ps P) ≡ true → rated_row (named_low ps) P ls ≡ rated_row (named ps) P ls
+unfolding verdict_of
+rated-named ls ps P e =
+    rated_alike (named_low ps) (named ps) P ls (λ i l. rw (lt-ltb i 64 (omega (arith, l, short (bad_row (length ls)) refl))) refl)
+  where
+    short : (b : Bool) → bad_row (length ls) ≡ b → length ls ≤ 64
+    short true q = absurd (let o = rw q at e in cc)
+    short false q = search arith

@@ -1,2 +1,3 @@
 -- The files of this folder, lowest first.
 pub mod Groups
+pub mod Marks

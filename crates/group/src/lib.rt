@@ -2,6 +2,7 @@
 #![tactic(auto)]
 
 mod asking;
+mod marks;
 mod rating;
 
 pub use rating::rate;

@@ -1,25 +1,33 @@
 // A rate command for a group: all lines are asked, and then all are rated, or none.
 ghost use Rattle.std.specs.Prelude.{◌≡◌};
-ghost use Rattle.group.specs.Groups.{named, rated_row, verdict_of, row_of};
+ghost use Rattle.group.specs.Groups.{rate_of, rated_row, verdict_of, row_of};
+ghost use Rattle.group.specs.Marks.{named_low};
 
-use super::asking::{asked, rated};
+use super::asking::{answer, asked};
+use super::marks::{is_unmarked, with_mark};
 use line::{Line, Verdict};
 
-// Whether a place is among those of a list.
-fn is_named(places: &[u32], i: usize) -> bool
-    ensures { result ≡ named places.now i }
+// Gives the rate command to a lent line. Only its serial and its state are stored.
+fn take_rate(line: &mut Line, interval: u32)
+    ensures { line.new ≡ (rate_of line.old interval).line }
 {
-    places.iter().any(|&place| i == place as usize)
+    if answer(line, interval).is_ok() {
+        line.serial = line.serial.saturating_add(1);
+        line.state = line.state.rated(interval);
+    }
 }
 
-// Gives the rate command to each line whose place is named, once.
+// Gives the rate command to the line at each place of a list, once. A place above 63 has no mark, and is left out.
 fn rate_named(row: &mut [Line], places: &[u32], interval: u32)
-    ensures { row.new ≡ rated_row (named places.now) interval row.old }
+    ensures { row.new ≡ rated_row (named_low places.now) interval row.old }
 {
-    for (i, line) in row.iter_mut().enumerate() {
-        if is_named(places, i) {
-            *line = rated(*line, interval).line;
+    let mut marks = 0;
+    for &place in places {
+        let i = place as usize;
+        if is_unmarked(marks, place) && i < row.len() {
+            take_rate(&mut row[i], interval);
         }
+        marks = with_mark(marks, place);
     }
 }
 

@@ -33,7 +33,7 @@ loop-place-preserved c =
     let looked = rw c.in_ok-line.ensures.ok_part at c.get.ensures.lookup in
     let inside : p < length ls = ltb-true p (length ls) (sym looked.0) in
     let here : c.in_ok-line.line.now ≡ get_or ls p blank_line = looked.1 ∙ get_or_default ls p c.in_ok-line.line.now blank_line inside in
-    let said : c.rated.result.verdict ≡ answers ls P p = rw (c.rated.ensures, here) refl in
+    let said : c.answer.result ≡ answers ls P p = rw (c.answer.ensures, here) refl in
     record {
       left = rw (c.and-verdict.ensures, said) (sym (answered_more ls P v ps _ c.loop-place-test.true inside) ∙ c.loop-place.invariant.left);
       plain = rw (c.and-verdict.ensures, said) (plain_more ls P v p c.loop-place.invariant.plain);
