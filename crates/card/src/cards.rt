@@ -1,11 +1,14 @@
 // A card: its row of lines, what each of them answers, and what is printed of it.
+ghost use Rattle.std.specs.Prelude.{◌≡◌};
+ghost use Rattle.group.specs.Groups.{row_of, verdict_of};
+
 use super::pending::Pending;
 use arrayvec::ArrayVec;
 use descriptor::{Configuration, Descriptor};
 use dispatcher::Dispatcher;
-use line::{Answered, Asked, Line};
+use line::{Answered, Asked, Line, Verdict};
 use outlet::Outlet;
-use printing::{Answer, answer_text, asked_text};
+use printing::{Answer, ROOM, Text, answer_text, asked_text};
 use script::{Giving, Target};
 use std::io;
 use std::io::{Stdout, Write};
@@ -20,10 +23,16 @@ pub struct Card {
     pub pending: Option<Pending>,
 }
 
+// Puts a text in one piece: no write ends within it.
+// Stays: two lines, here and in meter, since printing gives texts and writes none; a crate for it is no plainer.
+pub(crate) fn put(out: &mut Outlet<Stdout>, text: &Text) -> io::Result<()> {
+    out.make_room(ROOM)?;
+    out.write_all(text.as_slice())
+}
+
 // Puts an answer.
-// Stays: one line, here and in meter, since printing gives texts and writes none; a crate for it is no plainer.
 pub(crate) fn put_answer(out: &mut Outlet<Stdout>, answer: Answer) -> io::Result<()> {
-    out.write_all(answer_text(answer).as_slice())
+    put(out, &answer_text(answer))
 }
 
 impl Card {
@@ -56,6 +65,18 @@ impl Card {
             self.lines.push(line);
         }
         put_answer(out, Answer::from(made.map(|_| 0)))
+    }
+
+    // Gives the rate command, burst keep, to the lines at the places of a list: to all of them or to none. The rest of
+    // the card stays.
+    pub(crate) fn rate(&mut self, places: &[u32], interval: u32) -> Verdict
+        ensures answer { result ≡ verdict_of self.old.lines.items places.now interval }
+        ensures row_after { self.new.lines.items ≡ row_of self.old.lines.items places.now interval }
+        ensures ticks { self.new.ticks ≡ self.old.ticks }
+        ensures dispatcher { self.new.dispatcher ≡ self.old.dispatcher }
+        ensures pending { self.new.pending ≡ self.old.pending }
+    {
+        group::rate(self.lines.as_mut_slice(), places, interval)
     }
 
     // Takes the line that a command at a place handed back, and puts its answer.
@@ -91,5 +112,5 @@ impl Card {
 // Puts what asking tells.
 fn put_asked(out: &mut Outlet<Stdout>, told: Asked) -> io::Result<()> {
     let answer = Answer::from(told.verdict);
-    out.write_all(asked_text(answer, told.ticket).as_slice())
+    put(out, &asked_text(answer, told.ticket))
 }

@@ -1,5 +1,5 @@
 // What each line of a script does to the card.
-use super::cards::{Card, put_answer};
+use super::cards::{Card, put, put_answer};
 use super::pending::Pending;
 use descriptor::Descriptor;
 use line::{Audited, Line};
@@ -10,11 +10,11 @@ use printing::{Answer, counters_text};
 use programs::Program;
 use script::{CardCommand, Command, Target};
 use std::io;
-use std::io::{Stdout, Write};
+use std::io::Stdout;
 
 // Puts the counters of a line.
 fn put_counters(out: &mut Outlet<Stdout>, audit: Audited) -> io::Result<()> {
-    out.write_all(counters_text(audit.cpc, audit.pcslr).as_slice())
+    put(out, &counters_text(audit.cpc, audit.pcslr))
 }
 
 impl Card {
@@ -55,8 +55,7 @@ impl Card {
             CardCommand::Tick(n) => self.run(n, out),
             CardCommand::Group { interval, places } => {
                 let places = script::read_places(places);
-                let row = self.lines.as_mut_slice();
-                let verdict = group::rate(row, places.as_slice(), interval);
+                let verdict = self.rate(places.as_slice(), interval);
                 put_answer(out, Answer::from(verdict))
             }
             CardCommand::On { target, command } => match self.line_at(target.place).copied() {

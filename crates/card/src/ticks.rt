@@ -1,17 +1,17 @@
 // Ticks of a card: the dispatcher ticks the lines of the row where they lie, and its notices are put.
-use super::cards::{Card, put_answer};
+use super::cards::{Card, put, put_answer};
 use dispatcher::Notice;
 use outlet::Outlet;
 use printing::{Answer, notice_text};
 use std::io;
-use std::io::{Stdout, Write};
+use std::io::Stdout;
 
 // Puts the notice of a tick.
 fn put_notice(out: &mut Outlet<Stdout>, tick: u32, notice: Notice) -> io::Result<()> {
     let place = u32::try_from(notice.place).unwrap_or(u32::MAX);
     let told = notice.told;
     let text = notice_text(tick, place, told.tariff, told.burst, told.reports);
-    out.write_all(text.as_slice())
+    put(out, &text)
 }
 
 impl Card {

@@ -5,7 +5,7 @@ use line::{Answered, Line};
 use outlet::Outlet;
 use phase_lines::Waiting;
 use phases::Phases;
-use printing::{Answer, answer_text, tick_text};
+use printing::{Answer, ROOM, Text, answer_text, tick_text};
 use programs::Program;
 use script::Command;
 use state::State;
@@ -19,10 +19,16 @@ pub struct Gateway {
     pub waiting: Option<Waiting>,
 }
 
+// Puts a text in one piece: no write ends within it.
+// Stays: two lines, here and in card, since printing gives texts and writes none; a crate for it is no plainer.
+fn put(out: &mut Outlet<Stdout>, text: &Text) -> io::Result<()> {
+    out.make_room(ROOM)?;
+    out.write_all(text.as_slice())
+}
+
 // Puts an answer.
-// Stays: one line, here and in card, since printing gives texts and writes none; a crate for it is no plainer.
 fn put_answer(out: &mut Outlet<Stdout>, answer: Answer) -> io::Result<()> {
-    out.write_all(answer_text(answer).as_slice())
+    put(out, &answer_text(answer))
 }
 
 // Puts what a tick tells, if it tells something.
@@ -31,7 +37,7 @@ fn put_tick(out: &mut Outlet<Stdout>, clock: u32, cpc: u32, tick: Tick) -> io::R
     if tick == Tick::default() {
         return Ok(());
     }
-    out.write_all(tick_text(clock, cpc, tick).as_slice())
+    put(out, &tick_text(clock, cpc, tick))
 }
 
 // The state after the quiet ticks that come first among n, on a line of this pulse length and spacing, and how many of

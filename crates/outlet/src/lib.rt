@@ -1,10 +1,10 @@
 // Output by way of a buffer.
 #![tactic(auto)]
 
-ghost use Rattle.std.specs.Prelude.{◌≡◌, ◌+◌, [], OnOk, IfOk};
+ghost use Rattle.std.specs.Prelude.{◌≡◌, ◌+◌, ◌≤◌, true, [], IsOk, OnOk, IfOk};
 ghost use Rattle.std.specs.Io.KnownBytes.{Appends, Keeps};
 ghost use Rattle.arrayvec.specs.ArrayVec.{array_vec_len};
-ghost use Rattle.outlet.specs.Held.{known_of};
+ghost use Rattle.outlet.specs.Held.{known_of, has_room, room_made};
 
 use arrayvec::ArrayVec;
 use std::io;
@@ -38,6 +38,21 @@ impl<W: Write> Outlet<W> {
         let sent = self.to.write_all(self.held.as_slice());
         self.held.clear();
         sent
+    }
+
+    // Makes room for n bytes, so that a text of at most n bytes is put in one piece: where they have none, what is held
+    // back is written out, all of it. Where they have, nothing is written, and the outlet stays.
+    #[tactic(auto, unfolding(crate::specs::Held::room_made))]
+    pub fn make_room(&mut self, n: usize) -> io::Result<()>
+        ensures held { self.new.held.items ≡ room_made n self.old.held.items }
+        ensures bytes { OnOk result (Keeps (known_of W.contents self.old) (known_of W.contents self.new)) }
+        ensures stays { has_room n self.old.held.items ≡ true → IsOk result × (self.new.to ≡ self.old.to) }
+        ensures room { n ≤ 65536 → array_vec_len self.new.held + n ≤ 65536 }
+    {
+        if self.held.remaining_capacity() < n {
+            return self.flush();
+        }
+        Ok(())
     }
 
     // Writes out some of what is held back, and moves the rest to the front.

@@ -14,7 +14,7 @@ mod ticks;
 pub use asks::{answer_text, asked_text};
 use descriptor::Refusal;
 pub use notices::{counters_text, notice_text};
-pub use text::Text;
+pub use text::{ROOM, Text};
 pub use ticks::tick_text;
 
 // What a command is answered: the burst pulses cancelled, the number of a refusal, or neither.

@@ -8,10 +8,13 @@ use itoa::Buffer;
 use std::io::Write;
 use std::marker::Model;
 
-// A text of at most 69 bytes, the length of the longest that is printed.
+// The room of a text: the length of the longest that is printed.
+pub const ROOM: usize = 69;
+
+// A text that is printed.
 #[derive(Drop)]
 pub struct Text {
-    bytes: ArrayVec<u8, 69>,
+    bytes: ArrayVec<u8, ROOM>,
 }
 
 impl Model for Text {
