@@ -64,7 +64,7 @@ impl Card {
         if let Ok(line) = made {
             self.lines.push(line);
         }
-        put_answer(out, Answer::from(made.map(|_| 0)))
+        put_answer(out, Answer::from(line::making_verdict(made)))
     }
 
     // Gives the rate command, burst keep, to the lines at the places of a list: to all of them or to none. The rest of

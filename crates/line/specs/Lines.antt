@@ -80,6 +80,11 @@ abbrev pub made_or_blank : Result Line Refusal → Line
 made_or_blank (Ok l) = l
 made_or_blank (Err r) = blank_line
 
+-- what making a line is answered: no burst pulse is cancelled, or why it was turned down
+abbrev pub making_verdict_of : Result Line Refusal → Verdict
+making_verdict_of (Ok l) = Ok 0
+making_verdict_of (Err r) = Err r
+
 -- ---- accepted and refused commands
 
 abbrev pub with_serial : Line → ℕ → Line

@@ -13,6 +13,7 @@ mod ticks;
 
 use answers::Tick;
 use descriptor::Refusal;
+pub use making::making_verdict;
 use state::State;
 use tariff::Schedule;
 

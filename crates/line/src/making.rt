@@ -1,8 +1,8 @@
 // Making a line.
 ghost use Rattle.std.specs.Prelude.{◌≡◌};
-ghost use Rattle.line.specs.Lines.{idle_line, fresh_line, blank_line, make_of};
+ghost use Rattle.line.specs.Lines.{idle_line, fresh_line, blank_line, make_of, making_verdict_of};
 
-use super::Line;
+use super::{Line, Verdict};
 use descriptor::{Configuration, Refusal};
 use state::{Counters, State};
 use tariff::{Schedule, Timed};
@@ -38,6 +38,13 @@ impl Line {
         let spacing = given.pulse + given.gap;
         Ok(Line::idle(given.pulse, spacing, given.clock, spacing))
     }
+}
+
+// What making a line is answered: no burst pulse is cancelled, or why the configuration was turned down.
+pub fn making_verdict(made: Result<Line, Refusal>) -> Verdict
+    ensures { result ≡ making_verdict_of made }
+{
+    made.map(|_| 0)
 }
 
 // A blank line, which begins no pulse: an ArrayVec of lines has it where no line was put yet.

@@ -84,7 +84,7 @@ impl Gateway {
         if let Ok(line) = made {
             self.line = Some(line);
         }
-        put_answer(out, Answer::from(made.map(|_| 0)))
+        put_answer(out, Answer::from(line::making_verdict(made)))
     }
 
     // Obeys a command on the line. A descriptor may wait for phase lines first.

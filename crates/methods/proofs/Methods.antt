@@ -22,6 +22,8 @@ use Rattle.line.specs.contracts.Line as L
 use Rattle.line.proofs.Line as L_code
 use Rattle.line.specs.contracts.making.LineDefault.default as blank
 use Rattle.line.proofs.making.LineDefault.default.Met as blank_met
+use Rattle.line.specs.contracts.making_verdict as making
+use Rattle.line.proofs.making_verdict.Met as making_met
 use Rattle.lent.specs.contracts.tick_in_place as lent
 use Rattle.lent.proofs.tick_in_place.Met as lent_met
 use Rattle.descriptor.specs.Refusals.{sound_configuration}
@@ -67,6 +69,7 @@ module _ {M : Type 1} {𝓤 : Ura M} (𝓛 : Logic 𝓤) (𝓜 : Model 𝓤 𝓛
   methods =
       record {
         make = told (λ κs a. (L.make.clauses 𝓛 𝓜.mem 𝓡.returns κs a).ensures tt) (L_code.make.Met.met 𝓤 𝓛 𝓜 𝓡) (λ _ a _ _. fact_mono 𝓤 _ _ (λ e. (rw e (taken a.0.pulse a.0.gap a.0.clock), λ cs. rw e)));
+        made = told (λ κs a. (making.clauses 𝓛 𝓜.mem 𝓡.returns κs a).ensures tt) (making_met.met 𝓤 𝓛 𝓜 𝓡) (λ _ _ _ _. fact_mono 𝓤 _ _ (λ e. rw e));
         blank = told (λ κs a. (blank.clauses 𝓛 𝓜.mem 𝓡.returns κs a).ensures tt) (blank_met.met 𝓤 𝓛 𝓜 𝓡) (λ _ _ _ _. fact_mono 𝓤 _ _ (λ e. blank-begins e));
         describes = told (λ κs a. (L.describe.clauses 𝓛 𝓜.mem 𝓡.returns κs a).ensures tt) (L_code.describe.Met.met 𝓤 𝓛 𝓜 𝓡) (λ _ _ _ _. fact_mono 𝓤 _ _ (λ e. rw e));
         asks = told (λ κs a. (L.ask.clauses 𝓛 𝓜.mem 𝓡.returns κs a).ensures tt) (L_code.ask.Met.met 𝓤 𝓛 𝓜 𝓡) (λ _ _ _ _. fact_mono 𝓤 _ _ (λ e. rw e));

@@ -1,5 +1,5 @@
 -- What each public method of a line does, in every model of the machine: the step that a list of calls takes.
-use Rattle.std.specs.Prelude.{◌≡◌, false, if◌then◌else◌, List, [], ℕ, None, Result, Ok, Err}
+use Rattle.std.specs.Prelude.{◌≡◌, false, if◌then◌else◌, List, [], ℕ, None, Result}
 use seplogic.Ra.Ura.{Ura}
 use base.Logic.{SProp, emp}
 use prog.Model.{Model}
@@ -12,19 +12,21 @@ use contract.Running.{Running}
 use denote.Triple.Entry.{Args, Res}
 use denote.Triple.Spec.{Meets}
 use denote.Triple.Clauses.{Ended, AtExit, Clauses, closing}
-use Rattle.line.specs.Lines.{made_or_blank, meant_by}
+use Rattle.line.specs.Lines.{made_or_blank, making_verdict_of, meant_by}
 use Rattle.line.specs.declared.Line.{Line}
 use Rattle.line.specs.contracts.Line as L
 use Rattle.line.proofs.Line as L_code
 use Rattle.line.specs.contracts.making.LineDefault.default as blank
 use Rattle.line.proofs.making.LineDefault.default.Symbol as blank_code
+use Rattle.line.specs.contracts.making_verdict as making
+use Rattle.line.proofs.making_verdict.Symbol as making_code
 use Rattle.lent.specs.contracts.tick_in_place as lent
 use Rattle.lent.proofs.tick_in_place.Symbol as lent_code
-use Rattle.descriptor.specs.Refusals.{refusal_number, sound_configuration}
+use Rattle.descriptor.specs.Refusals.{sound_configuration}
 use Rattle.descriptor.specs.declared.Refusal.{Refusal}
 use Rattle.demand.specs.Calls.{Call, describe, ask, hook, period, no_period, audit, tick}
 use Rattle.demand.specs.Calls.{Answer, accepted, refused, ticked}
-use Rattle.demand.specs.Machine.{outcome, answered, ticketed, audited, moved, step, entry_for}
+use Rattle.demand.specs.Machine.{verdict_told, outcome, answered, ticketed, audited, moved, step, entry_for}
 use Rattle.demand.specs.Machine.{commit, past, after_calls, entries, history}
 
 -- of the values passed to a call, its result, and the values passed as they are after it
@@ -33,8 +35,7 @@ Of T P = (κs : Lfts T.signature.lifetimes) → Args T.signature κs → Res T.s
 
 -- what making a line answers: no burst pulse is cancelled, or the number of the refusal
 abbrev pub making_told : Result Line Refusal → Answer
-making_told (Ok l) = accepted 0
-making_told (Err r) = refused (refusal_number r)
+making_told made = verdict_told (making_verdict_of made)
 
 -- in every model of the machine
 module _ {M : Type 1} {𝓤 : Ura M} (𝓛 : Logic 𝓤) (𝓜 : Model 𝓤 𝓛.H) (𝓡 : Running 𝓤 𝓛.H 𝓜) where
@@ -57,6 +58,9 @@ module _ {M : Type 1} {𝓤 : Ura M} (𝓛 : Logic 𝓤) (𝓜 : Model 𝓤 𝓛
         (making_told r ≡ (if sound_configuration given.pulse given.gap then accepted 0 else refused 1)) ×
         ((cs : List Call) →
         history given.pulse given.gap given.clock cs ≡ entries (after_calls (past [] (made_or_blank r)) cs)))
+    -- what a program answers, once it has made a line or was turned down
+    pub made : Does making.ended making_code.name making_code.code
+        (λ _ (made, _) r _. making_told made ≡ verdict_told r)
     -- where the configuration is refused, a blank line begins the list
     pub blank : Does blank.ended blank_code.name blank_code.code
         (λ _ _ r _. (D G clock : ℕ) (cs : List Call) → sound_configuration D G ≡ false →
