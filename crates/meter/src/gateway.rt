@@ -1,4 +1,7 @@
 // What each line of a script does to the line, and what is printed of it.
+ghost use Rattle.std.specs.Prelude.{◌≡◌};
+ghost use Rattle.meter.specs.Quiet.{quiet_first};
+
 use answers::Tick;
 use descriptor::Configuration;
 use line::{Answered, Line};
@@ -42,7 +45,9 @@ fn put_tick(out: &mut Outlet<Stdout>, clock: u32, cpc: u32, tick: Tick) -> io::R
 
 // The state after the quiet ticks that come first among n, on a line of this pulse length and spacing, and how many of
 // the n are left.
-fn quiet(mut state: State, pulse: u32, spacing: u32, n: u32) -> (State, u32) {
+fn quiet(mut state: State, pulse: u32, spacing: u32, n: u32) -> (State, u32)
+    ensures { result ≡ quiet_first pulse spacing n state }
+{
     for done in 0..n {
         if !state.is_quiet(pulse, spacing) {
             return (state, n - done);
