@@ -32,9 +32,13 @@ impl Waiting {
     pub fn with(self, phase: Option<Phase>) -> Waiting
         ensures { result ≡ waiting_with self phase }
     {
+        let phases = match (self.phases, phase) {
+            (Some(read), Some(p)) => Some(read.with(p)),
+            _ => None,
+        };
         Waiting {
             missing: self.missing.saturating_sub(1),
-            phases: self.phases.zip(phase).map(|(read, p)| read.with(p)),
+            phases,
             ..self
         }
     }
