@@ -2,10 +2,10 @@
 #![tactic(auto)]
 
 ghost use Rattle.std.specs.Prelude.{◌≡◌, ◌-◌};
-ghost use Rattle.burst.specs.Bursts.{start_of, is_running, burst_owed, held_more, older_of, completes_of, aged_of, is_due, any_due, burst_quiet, begun_of};
+ghost use Rattle.burst.specs.Bursts.{start_of, runs, is_running, burst_owed, held_more, older_of, completes_of, aged_of, is_due, any_due, rests, burst_quiet, begun_of};
 
-// A burst that runs: the pulses owed, the least distance of its fronts, and the ticks since its last front, held at
-// that distance.
+// A burst: the pulses owed, the least distance of its fronts, and the ticks since its last front, held at that distance.
+// Where the distance is 0 it does not run.
 #[derive(Clone, Copy, PartialEq, Eq, Debug)]
 pub struct Burst {
     pub owed: u32,
@@ -39,6 +39,13 @@ impl Burst {
         }
     }
 
+    // Whether it runs.
+    fn runs(self) -> bool
+        ensures { result ≡ runs self }
+    {
+        0 < self.distance
+    }
+
     // One tick on, while it runs on.
     pub fn older(self) -> Burst
         ensures { result ≡ older_of self }
@@ -49,12 +56,12 @@ impl Burst {
         }
     }
 
-    // Whether it is complete one tick on: no pulse is owed, and the last one ends.
+    // Whether it is complete one tick on: it runs, no pulse is owed, and the last one ends.
     #[tactic(auto, unfolding(crate::specs::Bursts::completes_of))]
     pub fn completes(self, pulse: u32) -> bool
         ensures { result ≡ completes_of pulse self }
     {
-        self.owed == 0 && held_more(self.distance, self.since) == pulse
+        self.runs() && self.owed == 0 && held_more(self.distance, self.since) == pulse
     }
 
     // Whether a pulse is owed, and its distance has passed.
@@ -62,6 +69,19 @@ impl Burst {
         ensures { result ≡ is_due self }
     {
         0 < self.owed && self.distance <= self.since
+    }
+
+    // Whether nothing of it happens one tick on, where `passed` says whether S ticks will have passed since the last
+    // front.
+    #[tactic(auto, unfolding(crate::specs::Bursts::rests))]
+    fn rests(self, pulse: u32, passed: bool) -> bool
+        ensures { result ≡ rests pulse passed self }
+    {
+        if self.runs() {
+            !self.completes(pulse) && !(passed && self.older().is_due())
+        } else {
+            self.owed == 0
+        }
     }
 
     // After a front of it.
@@ -80,7 +100,7 @@ impl Burst {
 pub fn is_running(burst: Option<Burst>) -> bool
     ensures { result ≡ is_running burst }
 {
-    burst.is_some()
+    burst.is_some_and(Burst::runs)
 }
 
 // The pulses that a burst or none owes.
@@ -114,11 +134,10 @@ pub fn age(burst: Option<Burst>, pulse: u32) -> Aged
     }
 }
 
-// Whether nothing of a burst or none happens one tick on, where `passed` says whether S ticks will have passed since
-// the last front.
+// Whether nothing of a burst or none happens one tick on.
 #[tactic(auto, unfolding(crate::specs::Bursts::burst_quiet))]
 pub fn is_quiet(burst: Option<Burst>, pulse: u32, passed: bool) -> bool
     ensures { result ≡ burst_quiet pulse passed burst }
 {
-    burst.is_none_or(|b| !b.completes(pulse) && !(passed && b.older().is_due()))
+    burst.is_none_or(|b| b.rests(pulse, passed))
 }

@@ -2,7 +2,7 @@
 use Rattle.std.specs.Prelude.{Option, Some}
 use Rattle.std.specs.Option.{option_map}
 use mathlib.Core.Path.{◌≡◌, refl, sym}
-use mathlib.Core.Bool.{Bool, true, false, ◌&&◌, and-eq-true_iff}
+use mathlib.Core.Bool.{Bool, true, false, ◌&&◌, and-eq-true_iff, and-false}
 use Prim.Native.Nat.{ℕ, zero, suc, ◌+◌, ◌-◌, min, max, ◌≤◌, ◌<◌}
 use native.Mathlib.Decide.{ℕ_discrete}
 use native.Mathlib.Omega.{arith}
@@ -30,9 +30,9 @@ module _ (D S : ℕ) (cfg : Config D S) (i : ℕ) where
       AgedAt (started n P k (at u)) (aged_of D (Some (burst_with 0 (max P S) (min (max P S) (i - u)))))
   unfolding aged_of completes_of
   last-pulse n P k u e b l (yes p) =
-      rw (eq-eqb (held_more (max P S) (min (max P S) (i - u))) D (omega arith), le-leb n k (omega arith), eq-eqb (i + 1) (u + D) p) (refl, over {n = n} {P = P} {k = k} {u = u} (omega arith) (omega arith))
+      rw (lt-ltb 0 (max P S) (omega arith), eq-eqb (held_more (max P S) (min (max P S) (i - u))) D (omega arith), le-leb n k (omega arith), eq-eqb (i + 1) (u + D) p) (refl, over {n = n} {P = P} {k = k} {u = u} (omega arith) (omega arith))
   last-pulse n P k u e b l (no p) =
-      rw (ne_eqb (held_more (max P S) (min (max P S) (i - u))) D (λ z. p (omega arith)), le-leb n k (omega arith), ne_eqb (i + 1) (u + D) p)
+      rw (lt-ltb 0 (max P S) (omega arith), ne_eqb (held_more (max P S) (min (max P S) (i - u))) D (λ z. p (omega arith)), le-leb n k (omega arith), ne_eqb (i + 1) (u + D) p)
       (refl, runs {n = n} {P = P} {k = k} {m = 0} {last = at u} (omega arith) (held_more_lem (max P S) i (at u) b) (omega arith) (λ z. lt-ltb (i + 1) (u + D) (omega arith)))
 
   pub burst-aged : (b : Started) (u : Option Burst) → BurstAt D S i b u → AgedAt b (aged_of D u)
@@ -46,7 +46,7 @@ module _ (D S : ℕ) (cfg : Config D S) (i : ℕ) where
   burst-aged b u (runs {n = n} {P = P} {k = k} {m = zero} {last = at v} e s x on) =
       rw s (last-pulse n P k v (omega arith) x (ltb-true i (v + D) (on refl)) (ℕ_discrete (i + 1) (v + D)))
   burst-aged b u (runs {n = n} {P = P} {k = k} {m = suc m} {last = last} e s x on) =
-      rw (ne_eqb (suc m) 0 (λ z. omega arith), s)
+      rw (ne_eqb (suc m) 0 (λ z. omega arith), and-false (ltb 0 (max P S)), s)
       (sym (still-owed n P k m last e), runs {n = n} {P = P} {k = k} {m = suc m} {last = last} e (held_more_lem (max P S) i last x) (before_more last i x) (λ z. absurd (omega arith)))
 
   -- ---- what the table and the answers ask of it
@@ -57,8 +57,8 @@ module _ (D S : ℕ) (cfg : Config D S) (i : ℕ) where
 
   pub runs-is : (b : Started) (u : Option Burst) → BurstAt D S i b u → is_running u ≡ burst_runs D b i
   runs-is b u none = refl
-  runs-is b u (runs {n = n} {P = P} {k = k} {m = zero} {last = last} e s x on) = rw (le-ltb k n (omega arith)) (sym (on refl))
-  runs-is b u (runs {n = n} {P = P} {k = k} {m = suc m} e s x on) = rw (lt-ltb k n (omega arith))
+  runs-is b u (runs {n = n} {P = P} {k = k} {m = zero} {last = last} e s x on) = rw (lt-ltb 0 (max P S) (omega arith), le-ltb k n (omega arith)) (sym (on refl))
+  runs-is b u (runs {n = n} {P = P} {k = k} {m = suc m} e s x on) = rw (lt-ltb 0 (max P S) (omega arith), lt-ltb k n (omega arith))
   runs-is b u (over {n = n} {k = k} {u = v} p q) = rw (le-ltb k n p, le-ltb i (v + D) q)
 
   -- ---- a pulse of it may start now, where f is whether other distances allow it

@@ -1,10 +1,10 @@
 -- What a call does to a line whose burst owes a pulse, in the numbers of the bound.
 use mathlib.Core.Path.{◌≡◌, refl, sym, ap, ◌∙◌}
-use mathlib.Core.Bool.{Bool, true, false, ◌&&◌, ◌||◌}
+use mathlib.Core.Bool.{Bool, true, false, ◌&&◌, ◌||◌, and-false}
 use Prim.Native.Nat.{ℕ, suc, ◌+◌, ◌-◌, ◌*◌, ◌%◌, ◌^◌, min, ◌≤◌}
 use native.Mathlib.Omega.{arith}
 use borrow.Author.Tests.{leb-false, eqb-false, ne_eqb, lt-ltb}
-use lib.Dec.{leb, eqb}
+use lib.Dec.{leb, ltb, eqb}
 use Rattle.answers.specs.declared.Front.{Front}
 use Rattle.answers.specs.declared.Front.TheVariants.{Tariff as TariffFront, Burst as BurstFront}
 use Rattle.tariff.specs.Tariffs.{room_of, is_endless}
@@ -81,7 +81,7 @@ blocked-by S w g k v v' true true false e p q r h = by (eqb v' 0) refl
 -- the burst owes a pulse, so it is not complete
 aged-is : (D m g k : ℕ) → aged_of D (Some (burst_with (suc m) g k)) ≡ record { burst = Some (burst_with (suc m) g (min g (k + 1))); complete = false }
 unfolding aged_of completes_of
-aged-is D m g k = rw (ne_eqb (suc m) 0 (λ z. omega arith))
+aged-is D m g k = rw (ne_eqb (suc m) 0 (λ z. omega arith), and-false (ltb 0 g))
 
 module _ (l : Line) (cfg : Config l.pulse l.spacing) (good : Good l.spacing l.schedule.phases l.schedule.count l.state.timed.tariff l.state.timed.wait) (m g k : ℕ) (owing : l.state.burst ≡ Some (burst_with (suc m) g k)) (wide : l.spacing ≤ g) where
   abbrev pub S : ℕ
@@ -158,7 +158,7 @@ module _ (l : Line) (cfg : Config l.pulse l.spacing) (good : Good l.spacing l.sc
   changed k' (descriptor t ls (Start n P)) (Ok tt) e =
       let endless : Bool = is_endless l.state.timed.tariff in
       let runs : Bool = is_running l.state.burst in
-      absurd (let running : runs ≡ true = ap is_running owing in let idle = starts_idle S endless runs t ls n P (allowed-reading S endless runs l.serial k' (descriptor t ls (Start n P)) e) in let o : ◌≡◌ {A = ℕ} 0 1 = cc in omega arith)
+      absurd (let running : runs ≡ true = rw owing (lt-ltb 0 g (omega arith)) in let idle = starts_idle S endless runs t ls n P (allowed-reading S endless runs l.serial k' (descriptor t ls (Start n P)) e) in let o : ◌≡◌ {A = ℕ} 0 1 = cc in omega arith)
   changed k' (descriptor NoTariff ls KeepBurst) (Ok tt) e = stops refl refl refl refl owing
   changed k' (descriptor KeepTariff ls KeepBurst) (Ok tt) e = stays refl refl refl refl owing
   changed k' (descriptor (Rate P) ls KeepBurst) (Ok tt) e = stays refl refl refl (next-rate P l.state.timed.tariff l.state.timed.wait) owing

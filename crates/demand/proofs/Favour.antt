@@ -15,7 +15,7 @@ use Rattle.steps.specs.Steps.{due_of, step_of}
 use Rattle.phase_lists.specs.Lists.{Lists}
 use Rattle.descriptor.specs.Refusals.{Cause, cause, ruling, descriptor_causes, tariff_causes, sound_burst}
 use Rattle.descriptor.specs.declared.Refusal.TheVariants.{Burst, BurstRuns}
-use Rattle.burst.specs.Bursts.{is_running, aged_of}
+use Rattle.burst.specs.Bursts.{is_running, completes_of, aged_of}
 use Rattle.burst.specs.declared.Burst.{Burst as Bursting}
 use Rattle.ticking.specs.Moves.{burst_after, moved_by}
 use Rattle.line.specs.Lines.{hook_of, period_of, no_period_of, audit_of, ask_of, tick_of, answered_by}
@@ -84,12 +84,12 @@ unfolding burst_after
 burst-on None b e = e
 burst-on (Some TariffFront) b e = e
 burst-on (Some BurstFront) None e = e
-burst-on (Some BurstFront) (Some b) e = refl
+burst-on (Some BurstFront) (Some b) e = e
 
 aged-on : (D : ℕ) (b : Option Bursting) → is_running (aged_of D b).burst ≡ true → is_running b ≡ true
 unfolding aged_of
 aged-on D None e = e
-aged-on D (Some b) e = refl
+aged-on D (Some b) e = cases (completes_of D b) (λ h. absurd (true≢false (sym (rw h at e)))) (λ h. rw h at e)
 
 -- ---- each call
 abbrev pub Favours : Reading → Line → Type 0

@@ -1,10 +1,16 @@
 // What a text reads as, in words: the number of a refusal, or the tariff part and the burst part.
 use descriptor::{BurstPart, TariffPart};
+use itoa::Buffer;
 use outcomes::{Reading, slots};
 use outlet::Outlet;
 use std::io;
 use std::io::{Stdout, Write};
 use tariff::Em;
+
+// Puts a number.
+fn put_number(out: &mut Outlet<Stdout>, n: u32) -> io::Result<()> {
+    out.write_all(Buffer::new().format(n).as_bytes())
+}
 
 // Puts a phase list in brackets. One that is over eight long is too long for a tariff, and not written out.
 fn put_list(out: &mut Outlet<Stdout>, list: &[u32]) -> io::Result<()> {
@@ -16,7 +22,7 @@ fn put_list(out: &mut Outlet<Stdout>, list: &[u32]) -> io::Result<()> {
         if i > 0 {
             out.write_all(b",")?;
         }
-        write!(out, "{value}")?;
+        put_number(out, *value)?;
     }
     out.write_all(b"]")
 }
@@ -61,7 +67,7 @@ pub(crate) fn put_reading(out: &mut Outlet<Stdout>, text: &[u8]) -> io::Result<(
             put_tariff(out, &reading)?;
             put_burst(out, reading.burst)?;
         }
-        Err(why) => write!(out, "{}", why.number())?,
+        Err(why) => put_number(out, why.number())?,
     }
     out.write_all(b"\n")
 }

@@ -2,6 +2,7 @@
 use Rattle.std.proofs.Common.{◌≡◌, ℕ, ◌-◌, ◌≤◌, Bool, true, false, ◌&&◌, ◌||◌, ltb, leb, Option, None, Some, refl, ap, arith, ltb-false}
 use mathlib.Core.Bool.{and-eq-true_iff, false≢true}
 use borrow.Author.Tests.{not-true}
+use Rattle.std.proofs.lemmas.Bool.{eqb-true}
 use borrow.Table.Steps.{cases}
 use Rattle.answers.specs.Fronts.{silent}
 use Rattle.std.specs.Option.{option_map}
@@ -11,7 +12,7 @@ use Rattle.steps.specs.Steps.{stepped, due_of, step_of}
 use Rattle.tariff.specs.declared.Schedule.{Schedule}
 use Rattle.tariff.specs.declared.Tariff.{Tariff}
 use Rattle.tariff.specs.declared.Tariff.TheVariants.{Idle, Endless, Counted, Phased, Ending}
-use Rattle.burst.specs.Bursts.{held_more, older_of, completes_of, aged_of, any_due, burst_quiet}
+use Rattle.burst.specs.Bursts.{held_more, older_of, completes_of, aged_of, is_due, any_due, rests, burst_quiet}
 use Rattle.burst.specs.declared.Burst.{Burst}
 use Rattle.state.specs.States.{ends_at, count_by, quiet_of, waited_of}
 use Rattle.state.specs.declared.State.{State}
@@ -24,12 +25,26 @@ record Quiet (D S : ℕ) (s : State) : Type 0 where
   rests : (any_due (option_map older_of s.burst) && leb S (held_more S s.since)) ≡ false
   holds : ends_at D s.since (held_more S s.since) ≡ false
 
--- a burst that is quiet is not complete, and no pulse of it may start
+-- a burst that does not run is not complete
+unrun : (D : ℕ) (b : Burst) → ltb 0 b.distance ≡ false → completes_of D b ≡ false
+unfolding completes_of
+unrun D b e = rw e
+
+-- a burst that rests is not complete, and no pulse of it may start
+resting : (D : ℕ) (passed : Bool) (b : Burst) → rests D passed b ≡ true →
+    (completes_of D b ≡ false) × ((is_due (older_of b) && passed) ≡ false)
+unfolding rests
+resting D passed b h =
+    cases (ltb 0 b.distance)
+    (λ e. let both = (and-eq-true_iff _ _).0 (rw e at h) in (not-true (completes_of D b) both.0, not-true _ both.1))
+    (λ e. let none-owed : b.owed ≡ 0 = eqb-true b.owed 0 (rw e at h) in (unrun D b e, rw none-owed))
+
+-- the same of a burst or none that is quiet
 burst-rests : (D : ℕ) (passed : Bool) (b : Option Burst) → burst_quiet D passed b ≡ true →
     (aged_of D b ≡ record { burst = option_map older_of b; complete = false }) × ((any_due (option_map older_of b) && passed) ≡ false)
 unfolding burst_quiet aged_of
 burst-rests D passed None h = (refl, refl)
-burst-rests D passed (Some b) h = let both = (and-eq-true_iff _ _).0 h in (rw (not-true (completes_of D b) both.0), not-true _ both.1)
+burst-rests D passed (Some b) h = let both = resting D passed b h in (rw both.0, both.1)
 
 quiet-parts : (D S : ℕ) (s : State) → quiet_of D S s ≡ true → Quiet D S s
 unfolding quiet_of
