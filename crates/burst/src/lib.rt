@@ -61,7 +61,7 @@ impl Burst {
     pub fn completes(self, pulse: u32) -> bool
         ensures { result ≡ completes_of pulse self }
     {
-        self.runs() && self.owed == 0 && held_more(self.distance, self.since) == pulse
+        self.owed == 0 && self.runs() && held_more(self.distance, self.since) == pulse
     }
 
     // Whether a pulse is owed, and its distance has passed.
@@ -73,14 +73,14 @@ impl Burst {
 
     // Whether nothing of it happens one tick on, where `passed` says whether S ticks will have passed since the last
     // front.
-    #[tactic(auto, unfolding(crate::specs::Bursts::rests))]
+    #[tactic(auto, unfolding(crate::specs::Bursts::rests, crate::specs::Bursts::completes_of))]
     fn rests(self, pulse: u32, passed: bool) -> bool
         ensures { result ≡ rests pulse passed self }
     {
-        if self.runs() {
-            !self.completes(pulse) && !(passed && self.older().is_due())
+        if self.owed == 0 {
+            !self.completes(pulse)
         } else {
-            self.owed == 0
+            self.runs() && !(passed && self.older().is_due())
         }
     }
 

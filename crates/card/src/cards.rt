@@ -26,8 +26,7 @@ pub struct Card {
 // Puts a text in one piece: no write ends within it.
 // Stays: two lines, here and in meter, since printing gives texts and writes none; a crate for it is no plainer.
 pub(crate) fn put(out: &mut Outlet<Stdout>, text: &Text) -> io::Result<()> {
-    out.make_room(ROOM)?;
-    out.write_all(text.as_slice())
+    out.put(text.as_slice(), ROOM)
 }
 
 // Puts an answer.

@@ -1,7 +1,7 @@
 // Output by way of a buffer.
 #![tactic(auto)]
 
-ghost use Rattle.std.specs.Prelude.{◌≡◌, ◌+◌, ◌≤◌, true, [], IsOk, OnOk, IfOk};
+ghost use Rattle.std.specs.Prelude.{◌≡◌, ◌+◌, ◌≤◌, ◌++◌, length, true, [], IsOk, OnOk, IfOk};
 ghost use Rattle.std.specs.Io.KnownBytes.{Appends, Keeps};
 ghost use Rattle.arrayvec.specs.ArrayVec.{array_vec_len};
 ghost use Rattle.outlet.specs.Held.{known_of, has_room, room_made};
@@ -53,6 +53,19 @@ impl<W: Write> Outlet<W> {
             return self.flush();
         }
         Ok(())
+    }
+
+    // Puts a text, in one piece where it has at most n bytes: room is made for n first, so that no write ends within it.
+    pub fn put(&mut self, text: &[u8], n: usize) -> io::Result<()>
+        ensures bytes { OnOk result (Appends (known_of W.contents self.old) (known_of W.contents self.new) text.now) }
+        ensures whole { length text.now ≤ n → n ≤ 65536 →
+            OnOk result (self.new.held.items ≡ room_made n self.old.held.items ++ text.now) }
+    {
+        self.make_room(n)?;
+        if self.held.try_extend_from_slice(text).is_ok() {
+            return Ok(());
+        }
+        self.write_all(text)
     }
 
     // Writes out some of what is held back, and moves the rest to the front.
