@@ -63,7 +63,9 @@ fn run(line: Line, n: u32, out: &mut Outlet<Stdout>) -> io::Result<Line> {
     let mut state = line.state;
     let mut left = n;
     for _ in 0..n {
-        (state, left) = quiet(state, line.pulse, line.spacing, left);
+        if state.is_quiet(line.pulse, line.spacing) {
+            (state, left) = quiet(state, line.pulse, line.spacing, left);
+        }
         if left == 0 {
             break;
         }

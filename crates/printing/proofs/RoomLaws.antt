@@ -1,5 +1,5 @@
 -- Bytes that are added to a text one after the other are added at once.
-use Rattle.std.proofs.Common.{◌≡◌, ℕ, zero, suc, ◌-◌, ◌≤◌, min, List, [], ◌∷◌, ◌++◌, length, take, refl, ap, ◌∙◌, arith, append_assoc, append-nil, length-append, length-take, take_all}
+use Rattle.std.proofs.Common.{◌≡◌, ℕ, zero, suc, ◌+◌, ◌-◌, ◌≤◌, min, List, [], ◌∷◌, ◌++◌, length, take, refl, sym, ap, ◌∙◌, arith, append_assoc, append-nil, length-append, length-take, take_all}
 use Rattle.printing.specs.Text.{digits_of}
 use Rattle.printing.specs.Room.{extended}
 
@@ -46,6 +46,11 @@ written t n bytes u p q =
     let r = 69 - length t in
     let same : take n bytes ≡ take r bytes = rw p (take_min r bytes) in
     q ∙ ap (λ (l : List ℕ). t ++ l) same
+
+-- bytes that have room in a text
+pub fitted : (t bytes u : List ℕ) → length t + length bytes ≤ 69 → u ≡ t ++ bytes → u ≡ extended t bytes
+unfolding extended
+fitted t bytes u h q = q ∙ ap (λ (l : List ℕ). t ++ l) (sym (take_all (69 - length t) bytes (omega (arith, h))))
 
 -- bytes that have room in an empty text
 pub whole : (a : List ℕ) {t u : List ℕ} → length a ≤ 69 → t ≡ [] → u ≡ extended t a → u ≡ a

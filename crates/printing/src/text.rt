@@ -39,7 +39,9 @@ impl Text {
     pub(crate) fn put(&mut self, bytes: &[u8])
         ensures { self.new ≡ extended self.old bytes.now }
     {
-        let _all = self.bytes.write(bytes);
+        if self.bytes.try_extend_from_slice(bytes).is_err() {
+            let _some = self.bytes.write(bytes);
+        }
     }
 
     // Puts a number and a text after it at the end.
