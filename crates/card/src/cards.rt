@@ -11,7 +11,7 @@ use outlet::Outlet;
 use printing::{Answer, ROOM, Text, answer_text, asked_text};
 use script::{Giving, Target};
 use std::io;
-use std::io::{Stdout, Write};
+use std::io::Stdout;
 
 // A card: its row of lines, the number of ticks so far, held at the largest number, the dispatcher, and the descriptor
 // that waits for phase lines, if one does.
@@ -24,7 +24,7 @@ pub struct Card {
 }
 
 // Puts a text in one piece: no write ends within it.
-// Stays: two lines, here and in meter, since printing gives texts and writes none; a crate for it is no plainer.
+// Stays: this and `put_answer`, here and in meter, since printing gives texts and writes none; a crate is no plainer.
 pub(crate) fn put(out: &mut Outlet<Stdout>, text: &Text) -> io::Result<()> {
     out.put(text.as_slice(), ROOM)
 }

@@ -54,7 +54,7 @@ impl Card {
             CardCommand::Configure(given) => self.configure(given, out),
             CardCommand::Tick(n) => self.run(n, out),
             CardCommand::Group { interval, places } => {
-                let places = script::read_places(places);
+                let places = script::group_places(places);
                 let verdict = self.rate(places.as_slice(), interval);
                 put_answer(out, Answer::from(verdict))
             }

@@ -1,5 +1,5 @@
 -- What is left of the quiet ticks, turn by turn.
-use Rattle.std.proofs.Common.{◌≡◌, refl, ℕ, suc, ◌+◌, ◌-◌, ◌<◌, arith}
+use Rattle.std.proofs.Common.{◌≡◌, ℕ, suc, ◌+◌, ◌-◌, ◌<◌, arith}
 use Rattle.std.specs.Prelude.{true, false}
 use Rattle.state.specs.States.{quiet_of, waited_of}
 use Rattle.state.specs.declared.State.{State}

@@ -13,7 +13,7 @@ use programs::Program;
 use script::Command;
 use state::State;
 use std::io;
-use std::io::{Stdout, Write};
+use std::io::Stdout;
 
 // A gateway: its line, once a configuration was accepted, and the descriptor that waits for phase lines, if one does.
 #[derive(Default, Drop)]
@@ -23,7 +23,7 @@ pub struct Gateway {
 }
 
 // Puts a text in one piece: no write ends within it.
-// Stays: two lines, here and in card, since printing gives texts and writes none; a crate for it is no plainer.
+// Stays: this and `put_answer`, here and in card, since printing gives texts and writes none; a crate is no plainer.
 fn put(out: &mut Outlet<Stdout>, text: &Text) -> io::Result<()> {
     out.put(text.as_slice(), ROOM)
 }

@@ -104,9 +104,9 @@ numbers (suc k) = unless [] (do
   ns ← numbers k
   give (n ∷ ns))
 
--- the places of a group, as they stand in a text: none where it is no list of places
-abbrev pub places_in : List ℕ → List ℕ
-places_in l = elim (numbers 64 (words_of l)) [ None ↦ [] | Some (ps, ws) ↦ ps ]
+-- the places of a group, as they stand in a text: its first 64 numbers, and none where a word of these is none
+abbrev pub places_at : List ℕ → List ℕ
+places_at l = elim (numbers 64 (words_of l)) [ None ↦ [] | Some (ps, ws) ↦ ps ]
 
 -- what follows `group`: P, and none to 64 places
 abbrev pub grouped : Reader (ℕ × List ℕ)

@@ -3,7 +3,7 @@ use Rattle.std.specs.Prelude.{List, ℕ, Option, Some, None}
 use Rattle.std.specs.Borrow.{Bor}
 use Rattle.script.specs.Words.{words_of}
 use Rattle.script.specs.Readers.{Parsed}
-use Rattle.script.specs.Cards.{CardLine, Add, On, Audit, Text, Tick, Group, places_in}
+use Rattle.script.specs.Cards.{CardLine, Add, On, Audit, Text, Tick, Group, places_at}
 use Rattle.script.specs.declared.CardCommand.{CardCommand}
 use Rattle.script.specs.declared.CardCommand.TheVariants as code
 
@@ -19,7 +19,7 @@ line_of (code.On to c) = On to c
 line_of (code.Audit place) = Audit place
 line_of (code.Text to text) = Text to text.now
 line_of (code.Tick t) = Tick t
-line_of (code.Group p text) = Group p (places_in text.now)
+line_of (code.Group p text) = Group p (places_at text.now)
 
 -- where there is one
 abbrev pub line_in : Option CardCommand → Option CardLine

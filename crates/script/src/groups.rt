@@ -2,7 +2,7 @@
 ghost use Rattle.std.specs.Prelude.{◌≡◌};
 ghost use Rattle.script.specs.Words.{words_of};
 ghost use Rattle.script.specs.Told.{told, told_line};
-ghost use Rattle.script.specs.Cards.{numbers, group, places_in};
+ghost use Rattle.script.specs.Cards.{numbers, group, places_at};
 
 use super::numbers::next_number;
 use super::words::ended;
@@ -34,9 +34,9 @@ pub(crate) fn next_group(line: &[u8]) -> Option<(CardCommand<'_>, &[u8])>
     Some((CardCommand::Group { interval, places }, rest))
 }
 
-// Reads the places of a group: the numbers of a text, none where it is no list of places.
-pub fn read_places(text: &[u8]) -> Places
-    ensures { result ≡ places_in text.now }
+// The places of a group, from the text of its command: its first 64 numbers, and none where a word of these is none.
+pub fn group_places(text: &[u8]) -> Places
+    ensures { result ≡ places_at text.now }
 {
     match next_places(text) {
         Some((places, _)) => places,

@@ -15,7 +15,7 @@ mod words;
 
 pub use card_lines::read_card;
 pub use commands::read_command;
-pub use groups::read_places;
+pub use groups::group_places;
 pub use numbers::next_number;
 pub use phases::read_phase;
 pub use words::ended;
@@ -56,7 +56,7 @@ pub struct Target {
 }
 
 // What a line of a card's script asks. Only a descriptor is asked or committed. A text is the end of the line, and so is
-// the text of a group's places, which `read_places` reads.
+// the text of a group's places, which `group_places` reads.
 #[derive(Clone, Copy, PartialEq, Eq, Debug)]
 pub enum CardCommand<'a> {
     Configure(Configuration),

@@ -1,6 +1,6 @@
 use Rattle.std.proofs.Common.{◌≡◌, ◌∙◌, ◌+◌, ◌*◌, ◌-◌, sym, rules, arith, true, false, get_or, drop}
 use Rattle.std.proofs.lemmas.List.{drop_all}
-use Rattle.script.specs.Numbers.{is_digit, top}
+use Rattle.script.specs.Numbers.{is_digit}
 use Rattle.script.proofs.NumberLaws.{number_after, past_top, no_more, from_zero, digit-on, no-digit}
 use Rattle.script.proofs.numbers.number_in.Goals as goal
 
